@@ -8,7 +8,7 @@ SHARE = $(DESTDIR)$(PREFIX)/share
 # build.py uses all processors, and rt lets one command at a time into a crate.
 .NOTPARALLEL:
 
-.PHONY: all build try example tour solvers test browser edits programs bench fuzz dist deb install uninstall clean
+.PHONY: all build try example tour solvers check test browser edits programs bench fuzz dist deb install uninstall clean
 
 # The programs that `make` builds, each with its crate.
 CRATES = inrc2pb=inrc2pb inrc2pb-bound=inrc2pb_bound
@@ -42,6 +42,10 @@ tour: build
 solvers: all
 	$(if $(filter 0,$(shell id -u)),,sudo )apt-get install -y coinor-cbc
 	python3 bench/solvers.py
+
+# Runs what can notice the changes since the last commit that passed the gate, or since the commit SINCE. Proves nothing.
+check: $(ROWS)
+	tests/kit/check.py $(SINCE)
 
 test:
 	.ci/run
@@ -92,7 +96,7 @@ PAGES = $(SHARE)/doc/inrc2pb
 LIBRARY = $(DESTDIR)$(PREFIX)/lib/inrc2pb
 ZSH = $(SHARE)/zsh/site-functions
 COMMANDS = $(wildcard python/inrc2pb-*)
-MODULES = $(wildcard python/inrc2pb/*.py python/inrc2pb/*/*.py) python/inrc2pb/py.typed python/pyproject.toml
+MODULES = $(wildcard python/inrc2pb/*.py python/inrc2pb/*/*.py python/inrc2pb/*/*/*.py) python/inrc2pb/py.typed python/pyproject.toml
 TOP_PAGES = README.md CHANGELOG.md CONTRIBUTING.md
 COMPLETED = inrc2pb inrc2pb-bound
 COMPLETIONS = "$(SHARE)/bash-completion/completions" "$(ZSH)" "$(SHARE)/fish/vendor_completions.d"

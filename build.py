@@ -1,24 +1,28 @@
 #!/usr/bin/env python3
-"""Proves the crates below some programs, each as soon as those that it uses are proved, and leaves the programs in the folder `out`.
+"""Proves the crates below some programs, each as soon as those that it uses are proved, and leaves
+the programs in the folder `out`.
 
 usage: build.py [PROGRAM=CRATE | CRATE] ..
 
   PROGRAM=CRATE  the program of this crate becomes out/PROGRAM
   CRATE          this library is proved, and kept below crates/CRATE/out
 
-The order comes from crates.txt. Of the crates that can be proved, the one with the longest chain of crates above it comes first; a crate
-counts by the bytes of its code. Each has a job for half of the processors, and one that is alone for all: the functions of a crate wait
-for one another, so more jobs are worth less and less. For the same reason crates start until there are a quarter more jobs than processors;
-a longer chain has the higher priority.
+The order comes from crates.txt. Of the crates that can be proved, the one with the longest chain of
+crates above it comes first; a crate counts by the bytes of its code. Each has a job for half of the
+processors, and one that is alone for all: the functions of a crate wait for one another, so more
+jobs are worth less and less. For the same reason crates start until there are a quarter more jobs
+than processors; a longer chain has the higher priority.
 
-`rt` works on one crate at a time and locks those that it uses, so each crate is proved in a folder of its own, to which the libraries below
-it are linked. Its proofs then go back to its folder. A crate whose sources, libraries and kit are as they were is not tried again. After a
-failure, or Ctrl-C, what was proved is kept.
+`rt` works on one crate at a time and locks those that it uses, so each crate is proved in a folder
+of its own, to which the libraries below it are linked. Its proofs then go back to its folder. A
+crate whose sources, libraries and kit are as they were is not tried again. After a failure, or
+Ctrl-C, what was proved is kept.
 """
 
 import fcntl
 import graphlib
 import hashlib
+import json
 import os
 import shutil
 import signal
@@ -32,12 +36,14 @@ from typing import Dict, Iterable, Iterator, List, NamedTuple, Set
 ROOT = Path(__file__).resolve().parent
 OUT = ROOT / "out"
 ROOMS = OUT / "rooms"
+# How many seconds the proof of each crate took the last time.
+SECONDS = OUT / "proof-seconds.json"
 PAUSE = 0.1
 # The niceness of the lowest priority.
 LEAST_PRIORITY = 19
 NO_KIT = (
-    "there is no command rt: the kit of Rattle has it, which README.md names under 'Get it'. Once it is unpacked, "
-    "add its folder bin to PATH."
+    "there is no command rt: the kit of Rattle has it, which README.md names under 'Get it'. Once"
+    " it is unpacked, add its folder bin to PATH."
 )
 
 
@@ -46,7 +52,8 @@ class Failed(Exception):
 
 
 class Crate(NamedTuple):
-    """A crate, its line of crates.txt, and the crates of this repository that it uses, the indirect ones too."""
+    """A crate, its line of crates.txt, and the crates of this repository that it uses, the indirect
+    ones too."""
 
     name: str
     line: str
@@ -139,7 +146,8 @@ def sums_of_sources(crates: Dict[str, Crate]) -> Dict[str, str]:
 
 
 def mark(crate: Crate, sources: str) -> str:
-    """The text of the crate's mark: the checksums of its sources, and of what was made from them."""
+    """The text of the crate's mark: the checksums of its sources, and of what was made from
+    them."""
     return f"{sources} {hashlib.sha256(crate.made.read_bytes()).hexdigest()}\n"
 
 
@@ -149,6 +157,16 @@ def is_proved(crate: Crate, sources: str) -> bool:
         return (crate.home / "out" / "proved").read_text() == mark(crate, sources)
     except FileNotFoundError:
         return False
+
+
+def seconds_of_proofs() -> Dict[str, int]:
+    """The seconds by the clock of the last proof of each crate that was proved here."""
+    return dict(json.loads(SECONDS.read_text())) if SECONDS.exists() else {}
+
+
+def keep_seconds(name: str, seconds: int) -> None:
+    """Keeps how long the proof of a crate took."""
+    SECONDS.write_text(json.dumps({**seconds_of_proofs(), name: seconds}))
 
 
 # ---- the room of a crate
@@ -167,7 +185,8 @@ def link(source: Path, target: Path, *without: str) -> None:
 
 
 def furnish(room: Path, crate: Crate, crates: Dict[str, Crate]) -> Path:
-    """Makes this folder a repository of the crate and of those below it, with their libraries. Returns the crate's folder there."""
+    """Makes this folder a repository of the crate and of those below it, with their libraries.
+    Returns the crate's folder there."""
     folder = room / "crates" / crate.name
     for name in sorted(crate.below):
         link(crates[name].home, room / "crates" / name, "out", "must-fail")
@@ -183,7 +202,8 @@ def furnish(room: Path, crate: Crate, crates: Dict[str, Crate]) -> Path:
 
 
 def make_room(crate: Crate, crates: Dict[str, Crate]) -> Path:
-    """A folder in which the crate is proved, with what was kept of its proofs. Returns the crate's folder there."""
+    """A folder in which the crate is proved, with what was kept of its proofs. Returns the crate's
+    folder there."""
     folder = furnish(ROOMS / crate.name, crate, crates)
     # A program runs once, on the data of its test.
     link(crate.home / "data", folder)
@@ -193,8 +213,10 @@ def make_room(crate: Crate, crates: Dict[str, Crate]) -> Path:
 
 
 def leave_room(name: str) -> Path:
-    """Moves the crate's proofs home. Returns the room, to be removed: it has thousands of links, which takes seconds."""
-    made, home = ROOMS / name / "crates" / name / "out", ROOT / "crates" / name / "out"
+    """Moves the crate's proofs home. Returns the room, to be removed: it has thousands of links,
+    which takes seconds."""
+    made = ROOMS / name / "crates" / name / "out"
+    home = ROOT / "crates" / name / "out"
     if made.exists() and not home.exists():
         made.rename(home)
     return ROOMS / name
@@ -214,7 +236,9 @@ class Task:
     """A crate that is being proved with this number of jobs, at this niceness."""
 
     def __init__(self, crate: Crate, crates: Dict[str, Crate], jobs: int, niceness: int) -> None:
-        self.crate, self.jobs, self.began = crate, jobs, time.monotonic()
+        self.crate = crate
+        self.jobs = jobs
+        self.began = time.monotonic()
         folder = make_room(crate, crates)
         words = [
             "nice",
@@ -238,8 +262,11 @@ class Build:
     """The crates, in the order of their chains, and those that are being proved."""
 
     def __init__(self, crates: Dict[str, Crate], processors: int) -> None:
-        self.crates, self.processors, self.began = crates, processors, time.monotonic()
-        self.sums, lengths = sums_of_sources(crates), chains(crates)
+        self.crates = crates
+        self.processors = processors
+        self.began = time.monotonic()
+        self.sums = sums_of_sources(crates)
+        lengths = chains(crates)
         self.order = sorted(crates, key=lambda name: -lengths[name])
         self.proved = 0
         self.tasks: List[Task] = []
@@ -261,7 +288,9 @@ class Build:
             self.finish(task)
             graph.done(task.crate.name)
             ready += self.unproved(graph)
-            what = f"{task.crate.name} is proved, in {time.monotonic() - task.began:.0f} s"
+            seconds = round(time.monotonic() - task.began)
+            keep_seconds(task.crate.name, seconds)
+            what = f"{task.crate.name} is proved, in {seconds} s"
         self.tell("all crates are proved")
 
     def unproved(self, graph: "graphlib.TopologicalSorter[str]") -> List[str]:
@@ -277,7 +306,8 @@ class Build:
         return found
 
     def start(self, ready: List[str]) -> None:
-        """Starts crates, the longest chain first, until there are a quarter more jobs than processors."""
+        """Starts crates, the longest chain first, until there are a quarter more jobs than
+        processors."""
         ready.sort(key=self.order.index)
         jobs = (
             self.processors if len(ready) == 1 and not self.tasks else max(1, self.processors // 2)
@@ -310,7 +340,8 @@ class Build:
         if task.process.returncode != 0:
             sys.stderr.write(task.log.read_text(errors="replace"))
             raise Failed(
-                f"{crate.name} is not proved: what rt said is above (its status is {task.process.returncode})"
+                f"{crate.name} is not proved: what rt said is above (its status is"
+                f" {task.process.returncode})"
             )
         self.remover.submit(shutil.rmtree, leave_room(crate.name), True)
         if not crate.made.exists():
@@ -326,12 +357,16 @@ class Build:
         names = ", ".join(sorted(task.crate.name for task in self.tasks))
         doing = f"; proving {names}" if names else ""
         print(
-            f"{minutes:3}:{seconds:02}  {self.proved:2} of {len(self.crates)} crates: {what}{doing}",
+            (
+                f"{minutes:3}:{seconds:02}  {self.proved:2} of {len(self.crates)} crates:"
+                f" {what}{doing}"
+            ),
             flush=True,
         )
 
     def stop(self) -> None:
-        """Ends what runs; `rt` ends its own commands. Waits until the rooms that were left are removed."""
+        """Ends what runs; `rt` ends its own commands. Waits until the rooms that were left are
+        removed."""
         for task in self.tasks:
             task.process.terminate()
         for task in self.tasks:

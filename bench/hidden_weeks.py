@@ -1,8 +1,10 @@
-"""Random weeks of seven kinds, each of which a hidden roster meets: always the same files for the same kind and seed.
+"""Random weeks of seven kinds, each of which a hidden roster meets: always the same files for the
+same kind and seed.
 
-`tight` asks for nearly all that its nurses can do, `skills` has many skills, `long` runs of shifts that depend on the week before,
-`weekends` is a last week with many totals, `wishes` has three requests for each nurse, `first` and `last` are weeks of a period; `wide`
-has eight shift types and skills.
+`tight` asks for nearly all that its nurses can do, `skills` has many skills, `long` runs of shifts
+that depend on the week before, `weekends` is a last week with many totals, `wishes` has three
+requests for each nurse, `first` and `last` are weeks of a period; `wide` has eight shift types and
+skills.
 """
 
 import random
@@ -68,7 +70,8 @@ def hidden_week(kind: str, seed: int, folder: Path) -> WeekFiles:
     asked = {
         place: _asked(number, kind == "tight", chance) for place, number in sorted(worked.items())
     }
-    names, shifts = list(ward.nurses), [None, *ward.shift_types]
+    names = list(ward.nurses)
+    shifts = [None, *ward.shift_types]
     wishes = range(3 * len(names) if kind == "wishes" else len(names) // 2)
     requests = tuple(
         Request(chance.choice(names), chance.choice(shifts), chance.randrange(len(DAYS)))

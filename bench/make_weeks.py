@@ -3,12 +3,13 @@
 
 usage: make_weeks.py FOLDER [NURSES [--demand PERCENT]]
 
-`thirty` is the last of four weeks of a ward with 30 nurses, four shift types and four skills. `month` has all four weeks
-of the same ward. `eight` is the second of four weeks of eight nurses, and no roster meets it: two nurses have the skill
-HeadNurse, and it is asked for on Wednesday night and, on Thursday, early and late. Nobody may work early or late on the
-day after a night. With NURSES, 12 or more, it writes only a ward of that size, such as `ward60` for 60 nurses: its last
-week, like `thirty`, and the three weeks before it, with the history of the first one. With `--demand 75` the weeks
-ask for three quarters of that demand. Needs Python 3.11 or later.
+`thirty` is the last of four weeks of a ward with 30 nurses, four shift types and four skills.
+`month` has all four weeks of the same ward. `eight` is the second of four weeks of eight nurses,
+and no roster meets it: two nurses have the skill HeadNurse, and it is asked for on Wednesday night
+and, on Thursday, early and late. Nobody may work early or late on the day after a night. With
+NURSES, 12 or more, it writes only a ward of that size, such as `ward60` for 60 nurses: its last
+week, like `thirty`, and the three weeks before it, with the history of the first one. With
+`--demand 75` the weeks ask for three quarters of that demand. Needs Python 3.11 or later.
 """
 
 import argparse
@@ -20,7 +21,7 @@ from typing import Callable, Dict, Iterator, List, Sequence, TypeVar
 
 sys.path.insert(0, str(Path(__file__).resolve().parents[1] / "python"))
 
-from inrc2pb.week.records import (
+from inrc2pb.week.records import (  # noqa: E402
     ANY,
     DAYS,
     Contract,
@@ -31,7 +32,7 @@ from inrc2pb.week.records import (
     Place,
     Request,
     Requirement,
-)  # noqa: E402
+)
 from inrc2pb.week.records import Scenario, ShiftType, WeekData  # noqa: E402
 from inrc2pb.week.files import history_text, scenario_text, week_text  # noqa: E402
 from inrc2pb.week.writing import write_text  # noqa: E402
@@ -54,8 +55,11 @@ NAMES = """
     Ada Berta Carla David Emil Frieda Greta Hanna Ida Jonas Karl Lena Mia Nora Otto Paula Quirin Rosa Simon Tilda
     Ulla Viktor Wanda Xaver Yara Zita Anton Bruno Clara Dora
 """.split()
-# The nurses of the ward whose demands `demands_of_ward` has. A ward of fewer than 12 would need nobody at most places.
-WARD, FEWEST, MOST = 30, 12, 1000
+# The nurses of the ward whose demands `demands_of_ward` has. A ward of fewer than 12 would need
+# nobody at most places.
+WARD = 30
+FEWEST = 12
+MOST = 1000
 
 Requirements = Dict[Place, Requirement]
 T = TypeVar("T")
@@ -79,9 +83,8 @@ class Numbers:
 
 def scenario(name: str, nurses: Sequence[Nurse]) -> Scenario:
     """The ward of these nurses."""
-    types, contracts = {shift.name: shift for shift in SHIFT_TYPES}, {
-        contract.name: contract for contract in CONTRACTS
-    }
+    types = {shift.name: shift for shift in SHIFT_TYPES}
+    contracts = {contract.name: contract for contract in CONTRACTS}
     return Scenario(name, WEEKS, SKILLS, types, contracts, {nurse.name: nurse for nurse in nurses})
 
 
@@ -156,10 +159,11 @@ def nurses_of_ward(count: int) -> List[Nurse]:
 
 
 def demands_of_ward(numbers: Numbers, nurses: int = WARD, percent: int = 100) -> Requirements:
-    """For 30 nurses one nurse and one caretaker on each shift, two nurses early on weekdays, and some places for which one more is
-    best. For other numbers of nurses, and this percentage of the demand, in proportion: a part of a nurse is rounded up at some
-    places and down at others."""
-    wanted, whole = nurses * percent, WARD * 100
+    """For 30 nurses one nurse and one caretaker on each shift, two nurses early on weekdays, and
+    some places for which one more is best. For other numbers of nurses, and this percentage of the
+    demand, in proportion: a part of a nurse is rounded up at some places and down at others."""
+    wanted = nurses * percent
+    whole = WARD * 100
     demands = {}
     for index, (shift, skill, day) in enumerate(
         itertools.product(SHIFTS, SKILLS, range(len(DAYS)))
@@ -209,7 +213,8 @@ def last_week(folder: Path, ward: Scenario, numbers: Numbers, percent: int = 100
 
 def ward_of_size(folder: Path, count: int, percent: int) -> None:
     """A ward of `count` nurses: the last week, then the weeks before it."""
-    numbers, ward = Numbers(count), scenario(f"ward{count}", nurses_of_ward(count))
+    numbers = Numbers(count)
+    ward = scenario(f"ward{count}", nurses_of_ward(count))
     last_week(folder, ward, numbers, percent)
     weeks = {
         f"week-{number}.txt": week_text(week_of_ward(ward, numbers, percent))
@@ -222,7 +227,8 @@ def ward_of_size(folder: Path, count: int, percent: int) -> None:
 
 def month(folder: Path) -> None:
     """30 nurses in all four weeks of a period."""
-    numbers, ward = Numbers(4), scenario("month", nurses_of_ward(WARD))
+    numbers = Numbers(4)
+    ward = scenario("month", nurses_of_ward(WARD))
     weeks = {
         f"week-{number}.txt": week_text(week_of_ward(ward, numbers)) for number in range(WEEKS)
     }
@@ -231,8 +237,10 @@ def month(folder: Path) -> None:
 
 
 def period(folder: Path, name: str, count: int, weeks: int, percent: int, seed: int) -> None:
-    """All weeks of a period of four or eight weeks of a ward with this number of nurses; totals are for the whole period."""
-    numbers, times = Numbers(seed), weeks // WEEKS
+    """All weeks of a period of four or eight weeks of a ward with this number of nurses; totals are
+    for the whole period."""
+    numbers = Numbers(seed)
+    times = weeks // WEEKS
     for _ in range(8):
         numbers.below(1)
     ward = scenario(name, nurses_of_ward(count))

@@ -3,9 +3,10 @@
 
     bench/periods.py [--seeds NUMBER] [--weeks NUMBER] [--wide NUMBER] [--eight SECONDS] [NAME ..]
 
-The month is planned once for each of the first seeds, each other period once, and so many random weeks of each of seven kinds, and with
-eight shift types and skills. `inrc2pb` checks all rosters, and `inrc2pb-bound` all bounds. With the default numbers it takes 25 minutes on
-four processors that nothing else uses. Names are those of goals.
+The month is planned once for each of the first seeds, each other period once, and so many random
+weeks of each of seven kinds, and with eight shift types and skills. `inrc2pb` checks all rosters,
+and `inrc2pb-bound` all bounds. With the default numbers it takes 25 minutes on four processors that
+nothing else uses. Names are those of goals.
 """
 
 import argparse
@@ -21,8 +22,11 @@ from hidden_weeks import KINDS, WIDE, hidden_week  # noqa: E402
 from solvers import Run, Work  # noqa: E402
 
 FIRST_SEED = 9001
-WEEK_SECONDS, WIDE_SECONDS = 10.0, 20.0
-MONTH, ALL_WEEKS, WIDE_WEEKS = "month", "random weeks", "random weeks, 8 x 8"
+WEEK_SECONDS = 10.0
+WIDE_SECONDS = 20.0
+MONTH = "month"
+ALL_WEEKS = "random weeks"
+WIDE_WEEKS = "random weeks, 8 x 8"
 
 
 class Goal(NamedTuple):
@@ -35,10 +39,15 @@ class Goal(NamedTuple):
 
 # What most seeds reached on two processors when this was written.
 GOALS = {
-    "12 nurses, 4 weeks": Goal(1235, 1195, 120), "20 nurses, 4 weeks": Goal(845, 780, 120), "40 nurses, 4 weeks": Goal(3110, 3110, 60),
-    "60 nurses, 4 weeks": Goal(2170, 2170, 60), "16 nurses, 8 weeks": Goal(2165, 2020, 300), "30 nurses, 8 weeks": Goal(1660, 1575, 300),
-    "40 nurses, 8 weeks": Goal(2860, 2780, 300), "60 nurses, 8 weeks": Goal(4070, 4070, 240),
-}  # fmt: skip
+    "12 nurses, 4 weeks": Goal(1235, 1195, 120),
+    "20 nurses, 4 weeks": Goal(845, 780, 120),
+    "40 nurses, 4 weeks": Goal(3110, 3110, 60),
+    "60 nurses, 4 weeks": Goal(2170, 2170, 60),
+    "16 nurses, 8 weeks": Goal(2165, 2020, 300),
+    "30 nurses, 8 weeks": Goal(1660, 1575, 300),
+    "40 nurses, 8 weeks": Goal(2860, 2780, 300),
+    "60 nurses, 8 weeks": Goal(4070, 4070, 240),
+}
 MONTH_GOAL = Goal(1820, 1820, 300)
 
 
@@ -52,7 +61,10 @@ def show(name: str, goal: Goal, ran: Run) -> None:
         " and ".join(word for word, is_reached in zip(("plan", "bound"), reached) if is_reached)
         or "neither"
     )
-    figures = f"{ran.penalty:>8} {goal.penalty:>8} {ran.bound:>8} {goal.bound:>8} {ran.seconds:8.1f} {ran.processor:8.1f}"
+    figures = (
+        f"{ran.penalty:>8} {goal.penalty:>8} {ran.bound:>8} "
+        f"{goal.bound:>8} {ran.seconds:8.1f} {ran.processor:8.1f}"
+    )
     print(f"{name:<24} {figures}  reached: {words} ({ran.by})", flush=True)
 
 
@@ -64,7 +76,10 @@ def random_runs(kinds: List[str], count: int, seconds: float, folder: Path) -> I
             ran = solvers.run(Work(files.scenario, files.history, [files.week], seconds), folder)
             if ran.proved != "yes":
                 print(
-                    f"  {kind} {seed}: penalty {ran.penalty}, lower bound {ran.bound}, {ran.proved} ({ran.by})",
+                    (
+                        f"  {kind} {seed}: penalty {ran.penalty}, lower bound {ran.bound},"
+                        f" {ran.proved} ({ran.by})"
+                    ),
                     flush=True,
                 )
             yield ran
@@ -80,9 +95,12 @@ def weeks(name: str, kinds: List[str], count: int, seconds: float, folder: Path)
     gaps = [(penalty - bound) / penalty for penalty, bound in known if penalty]
     used = sum(ran.processor for ran in runs)
     print(
-        f"{name}: {len(proved)} of {len(runs)} proved within {seconds:g} s; the widest gap is {100 * max(gaps, default=0):.2f} %; "
-        f"{used:.0f} seconds of processors in all", flush=True,
-    )  # fmt: skip
+        (
+            f"{name}: {len(proved)} of {len(runs)} proved within {seconds:g} s; the widest gap is"
+            f" {100 * max(gaps, default=0):.2f} %; {used:.0f} seconds of processors in all"
+        ),
+        flush=True,
+    )
 
 
 def main() -> None:
@@ -136,11 +154,16 @@ def main() -> None:
 
         steps[MONTH] = month
         for name, goal in GOALS.items():
-            steps[name] = lambda name=name, goal=goal: plan(name, goal, 1, name)  # type: ignore[misc]
+            steps[name] = lambda name=name, goal=goal: plan(  # type: ignore[misc]
+                name, goal, 1, name
+            )
         steps[ALL_WEEKS] = lambda: weeks(ALL_WEEKS, list(KINDS), given.weeks, WEEK_SECONDS, folder)
         steps[WIDE_WEEKS] = lambda: weeks(WIDE_WEEKS, [WIDE], given.wide, WIDE_SECONDS, folder)
         print(
-            f"{'':<24} {'penalty':>8} {'goal':>8} {'bound':>8} {'goal':>8} {'seconds':>8} {'of proc.':>8}",
+            (
+                f"{'':<24} {'penalty':>8} {'goal':>8} {'bound':>8} {'goal':>8} {'seconds':>8} "
+                f"{'of proc.':>8}"
+            ),
             flush=True,
         )
         for name in given.names or list(steps):

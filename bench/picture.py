@@ -3,7 +3,12 @@
 from math import floor, log10
 from typing import Dict, Iterator, List, Optional, Sequence, Tuple
 
-WIDTH, HEIGHT, LEFT, RIGHT, TOP, BOTTOM = 640, 330, 60, 470, 60, 270
+WIDTH = 640
+HEIGHT = 330
+LEFT = 60
+RIGHT = 470
+TOP = 60
+BOTTOM = 270
 COLORS = (("#0550ae", "#79b8ff"), ("#a40e26", "#ff8f8f"), ("#116329", "#7ee787"))
 LABEL_HEIGHT = 16
 
@@ -20,21 +25,24 @@ def _style() -> str:
         for index, (_, color) in enumerate(COLORS)
     )
     return (
-        "<style>\n.page { fill: #ffffff } .ink { fill: #1a1a1a } .grid { stroke: #dddddd } .curve { fill: none; stroke-width: 2 }\n"
-        f"{light}\n@media (prefers-color-scheme: dark) {{\n"
-        f".page {{ fill: #14171c }} .ink {{ fill: #e8e8e8 }} .grid {{ stroke: #3a404a }}\n{dark}\n}}\n</style>"
+        "<style>\n.page { fill: #ffffff } .ink { fill: #1a1a1a } .grid { stroke: #dddddd }"
+        f" .curve {{ fill: none; stroke-width: 2 }}\n{light}\n@media (prefers-color-scheme: dark)"
+        " {\n.page { fill: #14171c } .ink { fill: #e8e8e8 } .grid { stroke: #3a404a"
+        f" }}\n{dark}\n}}\n</style>"
     )
 
 
 def _step(top: float) -> float:
-    """The distance of the horizontal lines: 1, 2 or 5 times a power of ten, for at most six lines."""
+    """The distance of the horizontal lines: 1, 2 or 5 times a power of ten, for at most six
+    lines."""
     power = 10.0 ** floor(log10(top / 6))
     return next(power * factor for factor in (1, 2, 5, 10) if top / (power * factor) <= 6)
 
 
 def _apart(heights: Sequence[float]) -> List[float]:
     """The heights of labels, moved down as far as they need to be readable."""
-    placed, order = list(heights), sorted(range(len(heights)), key=heights.__getitem__)
+    placed = list(heights)
+    order = sorted(range(len(heights)), key=heights.__getitem__)
     for before, index in zip(order, order[1:]):
         placed[index] = max(placed[index], placed[before] + LABEL_HEIGHT)
     return placed
@@ -46,7 +54,8 @@ class Axes:
     def __init__(self, sizes: Sequence[int], highest: float) -> None:
         self.step = _step(highest)
         self.top = self.step * -(-highest // self.step)
-        self.first, self.last = log10(sizes[0]), log10(sizes[-1])
+        self.first = log10(sizes[0])
+        self.last = log10(sizes[-1])
 
     def across(self, size: int) -> float:
         """The column of a size."""
@@ -61,13 +70,20 @@ class Axes:
         for mark in range(round(self.top / self.step) + 1):
             y = self.up(mark * self.step)
             yield f'<line class="grid" x1="{LEFT}" x2="{RIGHT}" y1="{y:.1f}" y2="{y:.1f}"/>'
-            yield f'<text class="ink" x="{LEFT - 8}" y="{y + 4:.1f}" text-anchor="end">{mark * self.step:g}</text>'
+            yield (
+                f'<text class="ink" x="{LEFT - 8}" y="{y + 4:.1f}"'
+                f' text-anchor="end">{mark * self.step:g}</text>'
+            )
         for size in sizes:
-            yield f'<text class="ink" x="{self.across(size):.1f}" y="{BOTTOM + 18}" text-anchor="middle">{size}</text>'
+            yield (
+                f'<text class="ink" x="{self.across(size):.1f}" y="{BOTTOM + 18}"'
+                f' text-anchor="middle">{size}</text>'
+            )
 
 
 def picture(title: str, under: str, lines: Dict[str, Line], sizes: Sequence[int]) -> str:
-    """`lines` maps a name to its values at the sizes; a value that could not be measured is None."""
+    """`lines` maps a name to its values at the sizes; a value that could not be measured is
+    None."""
     axes = Axes(
         sizes, max(value for values in lines.values() for value in values if value is not None)
     )
@@ -76,11 +92,17 @@ def picture(title: str, under: str, lines: Dict[str, Line], sizes: Sequence[int]
         for values in lines.values()
     ]
     parts = [
-        f'<svg xmlns="http://www.w3.org/2000/svg" viewBox="0 0 {WIDTH} {HEIGHT}" font-family="sans-serif" font-size="13">',
+        (
+            f'<svg xmlns="http://www.w3.org/2000/svg" viewBox="0 0 {WIDTH} {HEIGHT}"'
+            ' font-family="sans-serif" font-size="13">'
+        ),
         _style(),
         f'<rect class="page" width="{WIDTH}" height="{HEIGHT}"/>',
         f'<text class="ink" x="{LEFT}" y="28" font-size="15">{title}</text>',
-        f'<text class="ink" x="{(LEFT + RIGHT) // 2}" y="{HEIGHT - 16}" text-anchor="middle">{under}</text>',
+        (
+            f'<text class="ink" x="{(LEFT + RIGHT) // 2}" y="{HEIGHT - 16}"'
+            f' text-anchor="middle">{under}</text>'
+        ),
         *axes.lines(sizes),
     ]
     labels = _apart([axes.up(points[-1][1]) for points in known])
@@ -95,7 +117,12 @@ def _curve(
     index: int, name: str, points: Sequence[Tuple[float, float]], label: float
 ) -> Iterator[str]:
     color = index % len(COLORS)
-    yield f'<polyline class="curve line{color}" points="{" ".join(f"{x:.1f},{y:.1f}" for x, y in points)}"/>'
+    yield (
+        f'<polyline class="curve line{color}"'
+        f' points="{" ".join(f"{x:.1f},{y:.1f}" for x, y in points)}"/>'
+    )
     for x, y in points:
         yield f'<circle class="label{color}" cx="{x:.1f}" cy="{y:.1f}" r="3"/>'
-    yield f'<text class="label{color}" x="{points[-1][0] + 12:.1f}" y="{label + 4:.1f}">{name}</text>'
+    yield (
+        f'<text class="label{color}" x="{points[-1][0] + 12:.1f}" y="{label + 4:.1f}">{name}</text>'
+    )

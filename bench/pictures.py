@@ -3,10 +3,12 @@
 
     bench/pictures.py [wall | page | sheet | search | tree]
 
-`wall` is docs/wall.png, the two weeks of examples/ward as they hang on the wall, and `page` is docs/page.png, the local page of the
-ward that `inrc2pb-plan FOLDER new` makes, both by headless Chromium. `sheet` is docs/sheet.png, the sheet plan of that ward, by
-LibreOffice and pdftoppm. `search` is docs/search.svg, the penalty and the bound during a search for four weeks of 12 nurses, and takes
-two minutes. `tree` is docs/tree.svg, the cases of the month's certificate. All need the programs that `make` leaves in out.
+`wall` is docs/wall.png, the two weeks of examples/ward as they hang on the wall, and `page` is
+docs/page.png, the local page of the ward that `inrc2pb-plan FOLDER new` makes, both by headless
+Chromium. `sheet` is docs/sheet.png, the sheet plan of that ward, by LibreOffice and pdftoppm.
+`search` is docs/search.svg, the penalty and the bound during a search for four weeks of 12 nurses,
+and takes two minutes. `tree` is docs/tree.svg, the cases of the month's certificate. All need the
+programs that `make` leaves in out.
 """
 
 import os
@@ -35,7 +37,12 @@ STEP = 100
 PROGRESS = re.compile(r" *([\d.]+) s  penalty (\d+)(?:  bound (\d+))?")
 PROVED = re.compile(r"lower bound (\d+)")
 
-WIDTH, HEIGHT, LEFT, RIGHT, TOP, BOTTOM = 720, 330, 60, 640, 60, 270
+WIDTH = 720
+HEIGHT = 330
+LEFT = 60
+RIGHT = 640
+TOP = 60
+BOTTOM = 270
 STYLE = """<style>
 .page { fill: #ffffff } .ink { fill: #1a1a1a } .grid { stroke: #dddddd } .curve { fill: none; stroke-width: 2.5 }
 .penalty { stroke: #a40e26 } .bound { stroke: #0550ae } .of-penalty { fill: #a40e26 } .of-bound { fill: #0550ae }
@@ -77,9 +84,15 @@ def run(*words: str, folder: str = ".") -> "subprocess.CompletedProcess[str]":
 def shoot(address: str, picture: Path, size: str) -> None:
     """Draws a page in a window of this size."""
     run(
-        "chromium", "--headless", "--no-sandbox", "--hide-scrollbars", "--force-device-scale-factor=1.25", f"--window-size={size}",
-        f"--screenshot={picture}", address,
-    )  # fmt: skip
+        "chromium",
+        "--headless",
+        "--no-sandbox",
+        "--hide-scrollbars",
+        "--force-device-scale-factor=1.25",
+        f"--window-size={size}",
+        f"--screenshot={picture}",
+        address,
+    )
     if picture.stat().st_size > MOST_BYTES:
         sys.exit(f"pictures.py: {picture} has more than {MOST_BYTES} bytes")
 
@@ -87,17 +100,21 @@ def shoot(address: str, picture: Path, size: str) -> None:
 def files(folder: Path, weeks: int, histories: int = 1) -> List[str]:
     """The options that name the files of the first weeks of a ward."""
     return [
-        "--sce", str(folder / "ward.txt"),
-        "--his", *(str(folder / f"history-{number}.txt") for number in range(histories)),
-        "--week", *(str(folder / f"week-{number}.txt") for number in range(weeks)),
-    ]  # fmt: skip
+        "--sce",
+        str(folder / "ward.txt"),
+        "--his",
+        *(str(folder / f"history-{number}.txt") for number in range(histories)),
+        "--week",
+        *(str(folder / f"week-{number}.txt") for number in range(weeks)),
+    ]
 
 
 def draw_wall() -> None:
     """Draws the page for the wall."""
     ward = ROOT / "examples" / "ward"
     with tempfile.TemporaryDirectory() as folder:
-        second, page = f"{folder}/roster-1.txt", f"{folder}/wall.html"
+        second = f"{folder}/roster-1.txt"
+        page = f"{folder}/wall.html"
         week = [
             "--sce",
             str(ward / "ward.txt"),
@@ -117,19 +134,33 @@ def draw_wall() -> None:
         )
         rosters = ["--roster", str(ward / "roster-0.txt"), second]
         run(
-            "inrc2pb-roster", "show", *files(ward, 2, 2), *rosters, "--monday", "2026-11-30", "--html", "--only-table", "--out", page
-        )  # fmt: skip
+            "inrc2pb-roster",
+            "show",
+            *files(ward, 2, 2),
+            *rosters,
+            "--monday",
+            "2026-11-30",
+            "--html",
+            "--only-table",
+            "--out",
+            page,
+        )
         shoot(page, WALL, "1160,350")
 
 
 def draw_page() -> None:
-    """Draws the local page after a first plan, with what can be done with the first Friday of a nurse."""
+    """Draws the local page after a first plan, with what can be done with the first Friday of a
+    nurse."""
     with tempfile.TemporaryDirectory() as folder:
         for verb in (["new"], ["plan", "--time", "10"]):
             run("inrc2pb-plan", "my ward", *verb, folder=folder)
         with subprocess.Popen(
-            ["inrc2pb-plan", "my ward", "serve"], cwd=folder, env=programs(), stdout=subprocess.PIPE, text=True
-        ) as server:  # fmt: skip
+            ["inrc2pb-plan", "my ward", "serve"],
+            cwd=folder,
+            env=programs(),
+            stdout=subprocess.PIPE,
+            text=True,
+        ) as server:
             assert server.stdout
             told = next(line for line in server.stdout if "http://" in line)
             shoot(f"{told.split()[-1]}?nurse=Grace&day=4#cell", PAGE, "1060,540")
@@ -178,7 +209,10 @@ def curve(name: str, values: Sequence[Value], last: float, low: int, high: int) 
     label = end - 10 if name == "penalty" else end + 20
     return [
         f'<polyline class="curve {name}" points="{" ".join(places)}"/>',
-        f'<text class="of-{name}" x="{RIGHT}" y="{label:.1f}" text-anchor="end">{name} {values[-1].points}</text>',
+        (
+            f'<text class="of-{name}" x="{RIGHT}" y="{label:.1f}"'
+            f' text-anchor="end">{name} {values[-1].points}</text>'
+        ),
     ]
 
 
@@ -186,13 +220,23 @@ def search_picture(known: Dict[str, List[Value]]) -> str:
     """The picture of a search."""
     last = max(value.second for values in known.values() for value in values) * 1.1
     points = [value.points for values in known.values() for value in values]
-    low, high = STEP * (min(points) // STEP), STEP * -(-max(points) // STEP)
+    low = STEP * (min(points) // STEP)
+    high = STEP * -(-max(points) // STEP)
     parts = [
-        f'<svg xmlns="http://www.w3.org/2000/svg" viewBox="0 0 {WIDTH} {HEIGHT}" font-family="sans-serif" font-size="13">',
+        (
+            f'<svg xmlns="http://www.w3.org/2000/svg" viewBox="0 0 {WIDTH} {HEIGHT}"'
+            ' font-family="sans-serif" font-size="13">'
+        ),
         STYLE,
         f'<rect class="page" width="{WIDTH}" height="{HEIGHT}"/>',
-        f'<text class="ink" x="{LEFT}" y="28" font-size="15">points of the best plan so far, and points that every plan costs</text>',
-        f'<text class="ink" x="{(LEFT + RIGHT) // 2}" y="{HEIGHT - 16}" text-anchor="middle">seconds of the search</text>',
+        (
+            f'<text class="ink" x="{LEFT}" y="28" font-size="15">points of the best plan so far,'
+            " and points that every plan costs</text>"
+        ),
+        (
+            f'<text class="ink" x="{(LEFT + RIGHT) // 2}" y="{HEIGHT - 16}"'
+            ' text-anchor="middle">seconds of the search</text>'
+        ),
     ]
     for mark in range(low, high + 1, STEP):
         row = up(mark, low, high)
@@ -203,7 +247,8 @@ def search_picture(known: Dict[str, List[Value]]) -> str:
     for second in (0, 1, 2, 5, 10, 20, 50, 100, 200):
         if second <= last:
             parts.append(
-                f'<text class="ink" x="{across(second, last):.1f}" y="{BOTTOM + 18}" text-anchor="middle">{second}</text>'
+                f'<text class="ink" x="{across(second, last):.1f}" y="{BOTTOM + 18}"'
+                f' text-anchor="middle">{second}</text>'
             )
     for name, values in known.items():
         parts += curve(name, values, last, low, high)

@@ -1,12 +1,15 @@
 #!/usr/bin/env python3
-"""Lets `inrc2pb-solve` plan random weeks from nothing, one after another, and says how many `inrc2pb-bound` proves in time.
+"""Lets `inrc2pb-solve` plan random weeks from nothing, one after another, and says how many
+`inrc2pb-bound` proves in time.
 
-    bench/random_weeks.py [--first SEED] [--count NUMBER] [--time SECONDS] [--within SECONDS] [--wide PERCENT]
+    bench/random_weeks.py [--first SEED] [--count NUMBER] [--time SECONDS]
+                          [--within SECONDS] [--wide PERCENT]
 
-Each seed is a ward of 12 to 120 nurses with four shift types, in one of its four weeks, that asks for 70 to 110 % of what
-`make_weeks.py` asks for. With --wide it is the week of 100 nurses and eight shift types and skills that `wide_weeks.py` makes
-for this percentage: some are not proved in a minute.
-The programs are out/inrc2pb and out/inrc2pb-bound, or the one that INRC2PB names and the one beside it.
+Each seed is a ward of 12 to 120 nurses with four shift types, in one of its four weeks, that asks
+for 70 to 110 % of what `make_weeks.py` asks for. With --wide it is the week of 100 nurses and eight
+shift types and skills that `wide_weeks.py` makes for this percentage: some are not proved in a
+minute. The programs are out/inrc2pb and out/inrc2pb-bound, or the one that INRC2PB names and the
+one beside it.
 """
 
 import argparse
@@ -23,9 +26,12 @@ import solvers  # noqa: E402
 from inrc2pb.search.bounds import PROVER, find_prover  # noqa: E402
 from inrc2pb.programs.program import WeekFiles  # noqa: E402
 
-FEWEST, MOST = 12, 120
-LEAST_PERCENT, GREATEST_PERCENT = 70, 110
-WIDE_NURSES, WIDE_KINDS = 100, 8
+FEWEST = 12
+MOST = 120
+LEAST_PERCENT = 70
+GREATEST_PERCENT = 110
+WIDE_NURSES = 100
+WIDE_KINDS = 8
 
 
 def random_week(folder: Path, seed: int) -> WeekFiles:
@@ -102,7 +108,9 @@ def main() -> None:
     given = options.parse_args()
     if find_prover() is None:
         sys.exit(f"random_weeks.py: there is no {PROVER} beside inrc2pb: type make")
-    proved, by_clock, by_processor = 0, 0, 0
+    proved = 0
+    by_clock = 0
+    by_processor = 0
     print(
         "  seed nurses week  penalty    bound  gap %  best      seconds  of processors", flush=True
     )
@@ -123,11 +131,15 @@ def main() -> None:
         by_processor += is_proved and ran.processor <= given.within
         week = files.week.stem.rpartition("-")[2]
         best = ran.proved.partition(";")[0]
-        figures = f"{ran.penalty:>8} {ran.bound:>8} {gap(ran):>6}  {best:8} {ran.seconds:8.1f} {ran.processor:14.1f}"
+        figures = (
+            f"{ran.penalty:>8} {ran.bound:>8} {gap(ran):>6} "
+            f" {best:8} {ran.seconds:8.1f} {ran.processor:14.1f}"
+        )
         print(f"{seed:6} {nurses:>6} {week:>4} {figures}", flush=True)
     within = f"within {given.within:g} s"
     print(
-        f"{proved} of {given.count} are proved: {by_clock} {within}, {by_processor} {within} of processors"
+        f"{proved} of {given.count} are proved: {by_clock} {within}, {by_processor} {within} of"
+        " processors"
     )
 
 

@@ -71,8 +71,8 @@ class Run(NamedTuple):
 def measure(
     title: str, files: Sequence[Path], run: Run, copy_to: Path = NOTHING, runs: int = RUNS
 ) -> None:
-    """Prints a line for the run, next to `dd` and `cat` of these files. The three take turns, so that a slow moment of the machine
-    slows all of them."""
+    """Prints a line for the run, next to `dd` and `cat` of these files. The three take turns, so
+    that a slow moment of the machine slows all of them."""
     copies = {"cat": Run(["cat", *files], stdout=copy_to)}
     if len(files) == 1:
         copies["dd"] = Run(["dd", f"if={files[0]}", "bs=4096", "status=none"], stdout=copy_to)
@@ -86,21 +86,24 @@ def measure(
         f"{own / shortest[name]:>6.1f} {name}" if name in shortest else f"{'':>9}"
         for name in ("dd", "cat")
     )
-    size, memory = (
-        sum(file.stat().st_size for file in files) / MEGABYTE,
-        run.maximum_memory() / MEGABYTE,
-    )
+    size = sum(file.stat().st_size for file in files) / MEGABYTE
+    memory = run.maximum_memory() / MEGABYTE
     print(
-        f"{title:<45}{size:>8.1f} MB{own:>8.3f} s{size / own:>7.0f} MB/s{ratios}{memory:>7.1f} MB held",
+        (
+            f"{title:<45}{size:>8.1f} MB{own:>8.3f} s{size / own:>7.0f} MB/s"
+            f"{ratios}{memory:>7.1f} MB held"
+        ),
         flush=True,
     )
 
 
 class WeekFolder:
-    """The files of a week in a folder. If `late` is set, its history is of a week that the scenario does not have."""
+    """The files of a week in a folder. If `late` is set, its history is of a week that the scenario
+    does not have."""
 
     def __init__(self, folder: Path, late: bool = False) -> None:
-        self.scenario, self.week = folder / "scenario.txt", folder / "week.txt"
+        self.scenario = folder / "scenario.txt"
+        self.week = folder / "week.txt"
         self.history = folder / ("late.txt" if late else "history.txt")
 
     def files(self) -> List[Path]:
@@ -124,9 +127,12 @@ class WeekFolder:
 
 def bench_week(program: Path, name: str, room: Path) -> None:
     """Measures each command on a week of this size."""
-    folder, model, copy = room / name, room / f"{name}.opb", room / f"{name}.copy"
+    folder = room / name
+    model = room / f"{name}.opb"
+    copy = room / f"{name}.copy"
     weeks.write_files(weeks.SIZES[name], str(folder))
-    week, late = WeekFolder(folder), WeekFolder(folder, late=True)
+    week = WeekFolder(folder)
+    late = WeekFolder(folder, late=True)
     measure(
         f"{name}: read the files (a late week)",
         late.files(),
@@ -170,8 +176,10 @@ def bench_answers(program: Path, name: str, model: Path, room: Path) -> None:
 
 
 def bench_greatest(program: Path, room: Path) -> None:
-    """Measures `encode` on the week with the longest model. A run takes seconds, so there are few."""
-    folder, model = room / "greatest", room / "greatest.opb"
+    """Measures `encode` on the week with the longest model. A run takes seconds, so there are
+    few."""
+    folder = room / "greatest"
+    model = room / "greatest.opb"
     weeks.write_greatest(str(folder))
     week = WeekFolder(folder)
     subprocess.run(week.command(program, "encode", "--opb", model), check=True)
@@ -189,7 +197,8 @@ def bench_worst(program: Path, room: Path) -> None:
     for title, folder in worst.write_weeks(room / "worst"):
         week = WeekFolder(folder)
         measure(title, week.files(), Run(week.command(program, "encode")))
-    plain, answer = room / "plain", room / "answer"
+    plain = room / "plain"
+    answer = room / "answer"
     worst.write_texts(plain, worst.week_of_names(["Ann"]))
     decode = WeekFolder(plain).command(
         program, "decode", "--sol", room / "solution", "--answer", answer
@@ -201,8 +210,9 @@ def bench_worst(program: Path, room: Path) -> None:
 
 
 class Growth(NamedTuple):
-    """A week of a growing ward: the terms of its model, the bytes of its files, and nanoseconds for each of them. The time of a
-    byte is missing if reading takes less than a tenth of the time that the program needs to start.
+    """A week of a growing ward: the terms of its model, the bytes of its files, and nanoseconds for
+    each of them. The time of a byte is missing if reading takes less than a tenth of the time that
+    the program needs to start.
     """
 
     nurses: int
@@ -219,14 +229,17 @@ class Growth(NamedTuple):
 
 
 def growth(program: Path, room: Path, nurses: int, start: float) -> Growth:
-    """Measures a week of this number of nurses. `start` is the time that the program needs to start."""
+    """Measures a week of this number of nurses. `start` is the time that the program needs to
+    start."""
     folder = room / f"growth{nurses}"
     weeks.write_files(weeks.GROWTH[nurses], str(folder))
-    week, late = WeekFolder(folder), WeekFolder(folder, late=True)
+    week = WeekFolder(folder)
+    late = WeekFolder(folder, late=True)
     model = subprocess.run(
         week.command(program, "encode"), stdout=subprocess.PIPE, check=True
     ).stdout
-    terms, size = len(re.findall(rb"x\d", model)), sum(file.stat().st_size for file in week.files())
+    terms = len(re.findall(rb"x\d", model))
+    size = sum(file.stat().st_size for file in week.files())
     encoding = Run(week.command(program, "encode")).minimum_seconds(SHORT_RUNS)
     reading = Run(late.command(program, "encode"), status=1).minimum_seconds(SHORT_RUNS)
     per_byte = (reading - start) / size * 1e9 if reading > 1.1 * start else None

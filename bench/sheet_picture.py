@@ -1,4 +1,5 @@
-"""Draws a sheet of a spreadsheet as LibreOffice shows it, with the letters of its columns and the numbers of its rows."""
+"""Draws a sheet of a spreadsheet as LibreOffice shows it, with the letters of its columns and the
+numbers of its rows."""
 
 import re
 import subprocess
@@ -7,8 +8,11 @@ import zipfile
 from pathlib import Path
 
 PIXELS_PER_INCH = 80
-CENTIMETRES, INCH = (42, 14), 2.54
-HEADS, COLUMN, ROW = 42, 71, 14.3
+CENTIMETRES = (42, 14)
+INCH = 2.54
+HEADS = 42
+COLUMN = 71
+ROW = 14.3
 # A page on which LibreOffice prints lines between the cells, and the heads of columns and rows.
 STYLES = f"""<?xml version="1.0" encoding="UTF-8"?>
 <office:document-styles xmlns:office="urn:oasis:names:tc:opendocument:xmlns:office:1.0"
@@ -18,7 +22,10 @@ STYLES = f"""<?xml version="1.0" encoding="UTF-8"?>
  fo:page-height="{CENTIMETRES[1]}cm" fo:margin="0.3cm" style:print="grid headers"/></style:page-layout></office:automatic-styles>
 <office:master-styles><style:master-page style:name="Default" style:page-layout-name="page"><style:header style:display="false"/>
 <style:footer style:display="false"/></style:master-page></office:master-styles></office:document-styles>"""
-STYLES_ENTRY = '<manifest:file-entry manifest:full-path="styles.xml" manifest:media-type="text/xml"/></manifest:manifest>'
+STYLES_ENTRY = (
+    '<manifest:file-entry manifest:full-path="styles.xml"'
+    ' manifest:media-type="text/xml"/></manifest:manifest>'
+)
 ROWS = re.compile(r"<table:table-row>.*?</table:table-row>", re.DOTALL)
 CELLS = re.compile(r"<table:table-cell[^>]*?/>|<table:table-cell.*?</table:table-cell>", re.DOTALL)
 
@@ -29,7 +36,8 @@ def part_of_sheet(content: str, sheet: str, columns: int) -> str:
     assert found, f"no sheet {sheet}"
     rows = ["".join(CELLS.findall(row)[:columns]) for row in ROWS.findall(found.group(0))]
     table = "".join(f"<table:table-row>{row}</table:table-row>" for row in rows)
-    before, after = content.partition("<table:table ")[0], content.rpartition("</table:table>")[2]
+    before = content.partition("<table:table ")[0]
+    after = content.rpartition("</table:table>")[2]
     return f'{before}<table:table table:name="{sheet}">{table}</table:table>{after}'
 
 
@@ -61,7 +69,8 @@ def draw_sheet(spreadsheet: Path, sheet: str, columns: int, picture: Path) -> No
             ],
             check=True,
         )
-        wide, tall = HEADS + columns * COLUMN + 2, int(ROW * (len(ROWS.findall(content)) + 1)) + 3
+        wide = HEADS + columns * COLUMN + 2
+        tall = int(ROW * (len(ROWS.findall(content)) + 1)) + 3
         cut = ["-x", "8", "-y", "8", "-W", str(wide), "-H", str(tall)]
         words = [
             "pdftoppm",

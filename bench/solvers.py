@@ -1,9 +1,11 @@
 #!/usr/bin/env python3
-"""Plans some weeks and periods from nothing, one after another, and writes what was found to docs/solvers.md.
+"""Plans some weeks and periods from nothing, one after another, and writes what was found to
+docs/solvers.md.
 
     bench/solvers.py [--time SECONDS] [--only-print] [NAME ..]
 
-Without names all are planned, in about half an hour. The program is out/inrc2pb, or the one that INRC2PB names.
+Without names all are planned, in about half an hour. The program is out/inrc2pb, or the one that
+INRC2PB names.
 """
 
 import argparse
@@ -29,7 +31,9 @@ from inrc2pb.search.bounds import PROOF, find_prover  # noqa: E402
 from inrc2pb.week.faults import ProgramFault  # noqa: E402
 
 PAGE = ROOT / "docs" / "solvers.md"
-BEGIN, END = "<!-- measured -->", "<!-- end of measured -->"
+SOLVE = ROOT / "python" / "inrc2pb-solve"
+BEGIN = "<!-- measured -->"
+END = "<!-- end of measured -->"
 EXAMPLES = ROOT / "examples"
 # Last weeks of planned periods, with the numbers of their files, and the nurses of the large wards.
 LAST_WEEKS = {"last12": 3, "last60": 3, "last120": 3, "second60": 1, "second120": 1}
@@ -38,17 +42,26 @@ LARGE = (250, 500, 1000)
 WIDE = ((100, 8, 1),)
 # Periods: the nurses, weeks, percentage of the demand, seed, and the most seconds.
 PERIODS = {
-    "p12w4": (12, 4, 100, 501, 120), "p20w4": (20, 4, 90, 502, 120), "p40w4": (40, 4, 100, 503, 120), "p60w4": (60, 4, 95, 504, 120),
-    "p80w4": (80, 4, 95, 509, 120), "p100w4": (100, 4, 95, 510, 120), "p120w4": (120, 4, 95, 511, 120), "p16w8": (16, 8, 100, 505, 300),
-    "p30w8": (30, 8, 95, 506, 300), "p40w8": (40, 8, 95, 507, 300), "p60w8": (60, 8, 95, 508, 300),
-}  # fmt: skip
+    "p12w4": (12, 4, 100, 501, 120),
+    "p20w4": (20, 4, 90, 502, 120),
+    "p40w4": (40, 4, 100, 503, 120),
+    "p60w4": (60, 4, 95, 504, 120),
+    "p80w4": (80, 4, 95, 509, 120),
+    "p100w4": (100, 4, 95, 510, 120),
+    "p120w4": (120, 4, 95, 511, 120),
+    "p16w8": (16, 8, 100, 505, 300),
+    "p30w8": (30, 8, 95, 506, 300),
+    "p40w8": (40, 8, 95, 507, 300),
+    "p60w8": (60, 8, 95, 508, 300),
+}
 MONTH_SECONDS = 300
 # Linux's number of the option by which a process gets the children of those that end.
 SET_CHILD_SUBREAPER = 36
 
 
 class Work(NamedTuple):
-    """The files of a week or of a period, whose first history has the number `first`, and the most seconds of a run."""
+    """The files of a week or of a period, whose first history has the number `first`, and the most
+    seconds of a run."""
 
     scenario: Path
     history: Path
@@ -63,8 +76,9 @@ class Work(NamedTuple):
 
 
 class Run(NamedTuple):
-    """The penalty of the rosters, as `inrc2pb extend` has it, and the lower bound; whether it is proved that no plan costs less; the
-    seconds by the clock and of processors, the memory in MB, and what proved or computed the bound.
+    """The penalty of the rosters, as `inrc2pb extend` has it, and the lower bound; whether it is
+    proved that no plan costs less; the seconds by the clock and of processors, the memory in MB,
+    and what proved or computed the bound.
     """
 
     penalty: str
@@ -149,14 +163,16 @@ def named(home: Path, name: str, number: int) -> WeekFiles:
     return WeekFiles(home / "ward.txt", home / f"history-{number}.txt", home / f"week-{number}.txt")
 
 
-def run(work: Work, folder: Path, seed: int = 1) -> Run:
-    """Plans a week or a period from nothing in this folder. Its rosters are checked by `inrc2pb`, and the bound is that of `inrc2pb-bound`
-    by the certificate, if there is such a program."""
-    is_week, proof = len(work.weeks) == 1, folder / "certificate.txt"
+def run(work: Work, folder: Path, seed: int = 1, command: Path = SOLVE) -> Run:
+    """Plans a week or a period from nothing in this folder, by `inrc2pb-solve` or a copy of it. Its
+    rosters are checked by `inrc2pb`, and the bound is that of `inrc2pb-bound` by the certificate,
+    if there is such a program."""
+    is_week = len(work.weeks) == 1
+    proof = folder / "certificate.txt"
     target = ["--out", str(folder / "roster-0.txt" if is_week else folder)]
     limits = [
         "--time",
-        f"{work.seconds / len(work.weeks):g}",
+        f"{work.seconds:g}",
         "--seed",
         str(seed),
         "--proof",
@@ -164,7 +180,7 @@ def run(work: Work, folder: Path, seed: int = 1) -> Run:
     ]
     for old in (*folder.glob("roster-*.txt"), proof):
         old.unlink(missing_ok=True)
-    words = [sys.executable, str(ROOT / "python/inrc2pb-solve"), *work.options(), *target, *limits]
+    words = [sys.executable, str(command), *work.options(), *target, *limits]
     with open(folder / "said.txt", "w+") as said:
         took, used, memory = measured(words, said)
         said.seek(0)
@@ -177,13 +193,15 @@ def run(work: Work, folder: Path, seed: int = 1) -> Run:
 
 
 def measured(words: Sequence[str], said: TextIO) -> Tuple[float, float, int]:
-    """Runs a command, whose output goes to a file: its seconds by the clock and of processors, and its memory in MB. The seconds of all
-    processes that it leaves behind count, too: they become children of this one."""
+    """Runs a command, whose output goes to a file: its seconds by the clock and of processors, and
+    its memory in MB. The seconds of all processes that it leaves behind count, too: they become
+    children of this one."""
     ctypes.CDLL(None).prctl(SET_CHILD_SUBREAPER, 1, 0, 0, 0)
     began = time.monotonic()
     running = subprocess.Popen(words, stdout=said, stderr=subprocess.STDOUT)
     _, _, used = os.wait4(running.pid, 0)
-    took, seconds = time.monotonic() - began, used.ru_utime + used.ru_stime
+    took = time.monotonic() - began
+    seconds = used.ru_utime + used.ru_stime
     with contextlib.suppress(ChildProcessError):
         while True:
             left = os.wait4(-1, 0)[2]
@@ -192,7 +210,8 @@ def measured(words: Sequence[str], said: TextIO) -> Tuple[float, float, int]:
 
 
 def checked(work: Work, folder: Path, said: str) -> Tuple[str, str, str, str]:
-    """The penalty of the rosters of a folder, the lower bound, whether no plan costs less, and what proved or computed the bound."""
+    """The penalty of the rosters of a folder, the lower bound, whether no plan costs less, and what
+    proved or computed the bound."""
     rosters = [folder / f"roster-{number}.txt" for number in range(len(work.weeks))]
     if not all(roster.exists() for roster in rosters):
         return "none", "", "no", ""
@@ -213,7 +232,8 @@ def checked(work: Work, folder: Path, said: str) -> Tuple[str, str, str, str]:
             answer = run_program(
                 *work.options(), PROOF, str(folder / "certificate.txt"), *given, program=prover
             )
-            bound, by = answer.split()[2], prover.name
+            bound = answer.split()[2]
+            by = prover.name
             assert f"penalty {penalty}\n" in answer
         except ProgramFault as fault:
             by = f"{prover.name}: {fault.message}"
@@ -240,7 +260,8 @@ def table(runs: Dict[str, Run]) -> str:
     ]
     for name, run in runs.items():
         lines.append(
-            f"| `{name}` | {run.penalty} | {run.bound} | {run.proved} | {run.seconds:.1f} | {run.processor:.1f} | {run.memory} |"
+            f"| `{name}` | {run.penalty} | {run.bound} | {run.proved} | {run.seconds:.1f} |"
+            f" {run.processor:.1f} | {run.memory} |"
         )
     return "\n".join(lines)
 
@@ -268,7 +289,8 @@ def main() -> None:
     given = options.parse_args()
     runs: Dict[str, Run] = {}
     with tempfile.TemporaryDirectory() as room:
-        found, folder = works(Path(room), given.time), Path(room, "plan")
+        found = works(Path(room), given.time)
+        folder = Path(room, "plan")
         folder.mkdir()
         chosen: List[str] = given.names or list(found)
         for name in chosen:

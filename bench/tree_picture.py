@@ -1,7 +1,9 @@
-"""Draws the tree of cases of a certificate as an SVG picture, each case with the bound that `inrc2pb-bound` proves for it.
+"""Draws the tree of cases of a certificate as an SVG picture, each case with the bound that
+`inrc2pb-bound` proves for it.
 
-A leaf is proved on its own: the facts on the way to it are given (`--given`), and its prices and surcharges are a certificate of one leaf.
-The bound of a case that is divided is the lower one of its two parts.
+A leaf is proved on its own: the facts on the way to it are given (`--given`), and its prices and
+surcharges are a certificate of one leaf. The bound of a case that is divided is the lower one of
+its two parts.
 """
 
 import subprocess
@@ -9,7 +11,12 @@ import tempfile
 from pathlib import Path
 from typing import Iterator, List, NamedTuple, Sequence, Tuple
 
-MARGIN, APART, TOP, LEVEL, HALF, LINE = 20, 230, 60, 112, 105, 17
+MARGIN = 20
+APART = 230
+TOP = 60
+LEVEL = 112
+HALF = 105
+LINE = 17
 FACT_WORDS = {"CHOICE": 5, "PLACE": 6, "CHARGES": 4, "EVEN": 1}
 KINDS = {
     "SHIFT_RUNS": "charges for runs of a shift type",
@@ -31,7 +38,8 @@ Facts = Tuple[str, ...]
 
 
 class Drawn(NamedTuple):
-    """A case of the tree: the fact that divides it (none: a leaf), its bound, its column, and how many facts it has."""
+    """A case of the tree: the fact that divides it (none: a leaf), its bound, its column, and how
+    many facts it has."""
 
     fact: Tuple[str, ...]
     bound: int
@@ -41,7 +49,8 @@ class Drawn(NamedTuple):
 
 
 class Tree:
-    """The words of a certificate's tree, which are read from the first to the last. The options `files` name the weeks' files."""
+    """The words of a certificate's tree, which are read from the first to the last. The options
+    `files` name the weeks' files."""
 
     def __init__(self, files: Sequence[str], certificate: str) -> None:
         self.files = files
@@ -75,7 +84,8 @@ class Tree:
 
     def _bound(self, leaf: Sequence[str], facts: Facts) -> int:
         with tempfile.TemporaryDirectory() as folder:
-            given, proof = Path(folder, "facts.txt"), Path(folder, "leaf.txt")
+            given = Path(folder, "facts.txt")
+            proof = Path(folder, "leaf.txt")
             given.write_text("\n".join([f"FACTS case ROWS = {len(facts)}", *facts]) + "\n")
             proof.write_text(f"{self.prices}LEAVES = 1\n{' '.join(leaf)}\n")
             words = ["inrc2pb-bound", *self.files, "--given", str(given), "--proof", str(proof)]
@@ -108,19 +118,36 @@ def across(drawn: Drawn) -> float:
 
 def box(drawn: Drawn) -> Iterator[str]:
     """A case, and the lines to its parts below it."""
-    x, y = across(drawn), TOP + LEVEL * drawn.depth
+    x = across(drawn)
+    y = TOP + LEVEL * drawn.depth
     lines = question(drawn.fact) if drawn.parts else []
     tall = 14 + LINE * (1 + len(lines))
     for part, answer in zip(drawn.parts, ("yes", "no")):
         below = TOP + LEVEL * part.depth
-        yield f'<line class="branch" x1="{x:.0f}" y1="{y + tall}" x2="{across(part):.0f}" y2="{below}"/>'
-        middle, side = (x + across(part)) / 2, -8 if answer == "yes" else 8
+        yield (
+            f'<line class="branch" x1="{x:.0f}" y1="{y + tall}" x2="{across(part):.0f}"'
+            f' y2="{below}"/>'
+        )
+        middle = (x + across(part)) / 2
+        side = -8 if answer == "yes" else 8
         anchor = "end" if answer == "yes" else "start"
-        yield f'<text class="ink" x="{middle + side:.0f}" y="{(y + tall + below) / 2:.0f}" text-anchor="{anchor}">{answer}</text>'
-    yield f'<rect class="{"case" if lines else "leaf"}" x="{x - HALF:.0f}" y="{y}" width="{2 * HALF}" height="{tall}" rx="6"/>'
+        yield (
+            f'<text class="ink" x="{middle + side:.0f}" y="{(y + tall + below) / 2:.0f}"'
+            f' text-anchor="{anchor}">{answer}</text>'
+        )
+    yield (
+        f'<rect class="{"case" if lines else "leaf"}" x="{x - HALF:.0f}" y="{y}" width="{2 * HALF}"'
+        f' height="{tall}" rx="6"/>'
+    )
     for number, line in enumerate(lines):
-        yield f'<text class="ink" x="{x:.0f}" y="{y + LINE * (number + 1) + 2}" text-anchor="middle">{line}</text>'
-    yield f'<text class="bound" x="{x:.0f}" y="{y + tall - 10}" text-anchor="middle">at least {drawn.bound} points</text>'
+        yield (
+            f'<text class="ink" x="{x:.0f}" y="{y + LINE * (number + 1) + 2}"'
+            f' text-anchor="middle">{line}</text>'
+        )
+    yield (
+        f'<text class="bound" x="{x:.0f}" y="{y + tall - 10}" text-anchor="middle">at least'
+        f" {drawn.bound} points</text>"
+    )
 
 
 def cases(drawn: Drawn) -> Iterator[Drawn]:
@@ -138,7 +165,10 @@ def tree_picture(title: str, files: Sequence[str], certificate: str) -> str:
     tall = TOP + LEVEL * (1 + max(case.depth for case in every)) - 40
     return "\n".join(
         [
-            f'<svg xmlns="http://www.w3.org/2000/svg" viewBox="0 0 {wide:.0f} {tall}" font-family="sans-serif" font-size="13">',
+            (
+                f'<svg xmlns="http://www.w3.org/2000/svg" viewBox="0 0 {wide:.0f} {tall}"'
+                ' font-family="sans-serif" font-size="13">'
+            ),
             STYLE,
             f'<rect class="page" width="{wide:.0f}" height="{tall}"/>',
             f'<text class="ink" x="{MARGIN}" y="30" font-size="15">{title}</text>',

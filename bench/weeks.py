@@ -1,15 +1,18 @@
 #!/usr/bin/env python3
-"""Writes the three files of a made-up week, always the same ones, and an answer to its model; also a ward of any size.
+"""Writes the three files of a made-up week, always the same ones, and an answer to its model; also
+a ward of any size.
 
 usage: weeks.py files ward|large|greatest FOLDER     writes scenario.txt, history.txt and week.txt
        weeks.py answer ward|large MODEL ANSWER       writes a solver's answer, on one line
-       weeks.py period NURSES FOLDER                 writes ward.txt, history-0.txt, week-0.txt and week-1.txt
+       weeks.py period NURSES FOLDER                 writes ward.txt, history-0.txt, week-0.txt
+                                                     and week-1.txt
 
-`ward` is a last week of 120 nurses, 4 shift types and 4 skills. `large` has as many nurses, shift types,
-skills, contracts and requests as the limits allow: 1000, 16, 16, 64 and 9999. `greatest` is the week with
-the longest model that we know of: as large, with the numbers that charge most. In the answer's roster each
-place of a minimum has a nurse of its own, and no hard rule is broken; all slacks of the model are true. `period`
-has a ward like `ward`, with 48 to 1000 nurses, which asks for the same in each of its two weeks.
+`ward` is a last week of 120 nurses, 4 shift types and 4 skills. `large` has as many nurses, shift
+types, skills, contracts and requests as the limits allow: 1000, 16, 16, 64 and 9999. `greatest` is
+the week with the longest model that we know of: as large, with the numbers that charge most. In the
+answer's roster each place of a minimum has a nurse of its own, and no hard rule is broken; all
+slacks of the model are true. `period` has a ward like `ward`, with 48 to 1000 nurses, which asks
+for the same in each of its two weeks.
 """
 
 import sys
@@ -20,7 +23,7 @@ from typing import List, NamedTuple
 ROOT = Path(__file__).resolve().parent.parent
 sys.path.append(str(ROOT / "python"))
 
-from inrc2pb.week.records import (
+from inrc2pb.week.records import (  # noqa: E402
     DAYS,
     Contract,
     History,
@@ -31,13 +34,14 @@ from inrc2pb.week.records import (
     Request,
     Requirement,
     Scenario,
-)  # noqa: E402
+)
 from inrc2pb.week.records import ShiftType, Week, WeekData  # noqa: E402
 from inrc2pb.week.files import history_text, scenario_text, week_text  # noqa: E402
 from inrc2pb.week.writing import write_text  # noqa: E402
 
 NAME = "bench"
-WEEKS, SHORT_PERIOD = 4, 2
+WEEKS = 4
+SHORT_PERIOD = 2
 
 
 class Size(NamedTuple):
@@ -50,8 +54,9 @@ class Size(NamedTuple):
     requests: int
 
     def block_size(self) -> int:
-        """The nurses of a block. Each day asks for one nurse of each shift type and skill: they are the nurses of one block, and
-        three blocks take turns, so that no nurse works on two days that follow one another."""
+        """The nurses of a block. Each day asks for one nurse of each shift type and skill: they are
+        the nurses of one block, and three blocks take turns, so that no nurse works on two days
+        that follow one another."""
         return self.shifts * self.skills
 
     def worker(self, day: int, shift: int, skill: int) -> int:
@@ -69,7 +74,8 @@ SIZES = {
 }
 
 # The nurses of the three blocks of a ward, and the most nurses of a scenario.
-FEWEST_OF_PERIOD, MOST_OF_PERIOD = 3 * SIZES["ward"].block_size(), 1000
+FEWEST_OF_PERIOD = 3 * SIZES["ward"].block_size()
+MOST_OF_PERIOD = 1000
 
 # Weeks that differ only in the number of nurses, as wards do: requests grow with it.
 GROWTH = {
@@ -85,7 +91,8 @@ def named(kind: str, count: int) -> List[str]:
 
 def scenario(size: Size, weeks: int = WEEKS) -> Scenario:
     """A scenario of this size, with this number of weeks."""
-    shifts, skills = named("shift", size.shifts), named("skill", size.skills)
+    shifts = named("shift", size.shifts)
+    skills = named("skill", size.skills)
     types = {
         name: ShiftType(name, Limits(2, 3 + number % 3), tuple(shifts[max(0, number - 2) : number]))
         for number, name in enumerate(shifts)
@@ -154,13 +161,11 @@ def week(size: Size) -> WeekData:
 
 
 def greatest() -> Week:
-    """The week with the longest model. Each succession is forbidden, no nurse has a skill, and limits whose minimum is above the
-    maximum charge both."""
-    shifts, skills, nurses = (
-        tuple(named("shift", 16)),
-        tuple(named("skill", 16)),
-        named("nurse", 1000),
-    )
+    """The week with the longest model. Each succession is forbidden, no nurse has a skill, and
+    limits whose minimum is above the maximum charge both."""
+    shifts = tuple(named("shift", 16))
+    skills = tuple(named("skill", 16))
+    nurses = named("nurse", 1000)
     both = Limits(9999, 0)
     contract = Contract("contract0", both, both, both, 0, True)
     types = {name: ShiftType(name, both, shifts) for name in shifts}
@@ -192,8 +197,8 @@ def write_week(folder: Path, made: Week) -> None:
 
 
 def write_files(size: Size, folder: str) -> None:
-    """Writes a week of this size. `late.txt` is its history in a week that the scenario does not have: a run reads all files and
-    ends there."""
+    """Writes a week of this size. `late.txt` is its history in a week that the scenario does not
+    have: a run reads all files and ends there."""
     made = Week(scenario(size), history(size), week(size))
     write_week(Path(folder), made)
     write_text(Path(folder, "late.txt"), history_text(replace(made.history, week=WEEKS)))

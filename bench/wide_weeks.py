@@ -1,11 +1,13 @@
 #!/usr/bin/env python3
-"""Makes a ward with many shift types and skills, and its last week: always the same files for the same seed.
+"""Makes a ward with many shift types and skills, and its last week: always the same files for the
+same seed.
 
 usage: wide_weeks.py FOLDER NURSES KINDS SEED [PERCENT]
 
-It has KINDS shift types and skills, and each nurse has one to five skills of her own. A made-up roster sets the minimums, so that they
-can nearly always be met. The optimal numbers ask for PERCENT (100) of what the nurses work in it, and for one nurse more at some
-places. Needs Python 3.11 or later.
+It has KINDS shift types and skills, and each nurse has one to five skills of her own. A made-up
+roster sets the minimums, so that they can nearly always be met. The optimal numbers ask for PERCENT
+(100) of what the nurses work in it, and for one nurse more at some places. Needs Python 3.11 or
+later.
 """
 
 import sys
@@ -16,7 +18,7 @@ sys.path.insert(0, str(Path(__file__).resolve().parent))
 
 from make_weeks import CONTRACTS, WEEKS, Numbers, write_week  # noqa: E402
 
-from inrc2pb.week.records import (
+from inrc2pb.week.records import (  # noqa: E402
     DAYS,
     History,
     Limits,
@@ -26,7 +28,7 @@ from inrc2pb.week.records import (
     Request,
     Requirement,
     Scenario,
-)  # noqa: E402
+)
 from inrc2pb.week.records import ShiftType, WeekData  # noqa: E402
 
 # The days that a nurse works in the made-up roster, and in each of the weeks before, at least.
@@ -74,9 +76,8 @@ def ward(name: str, nurses: int, kinds: int, numbers: Numbers) -> Scenario:
 
 def past(nurse: Nurse, shifts: List[str], numbers: Numbers) -> NurseHistory:
     """A nurse's past: she worked on the last days, or was off."""
-    assignments, weekends = (WEEKS - 1) * WORKS[nurse.contract][1] + numbers.below(
-        6
-    ), numbers.below(3)
+    assignments = (WEEKS - 1) * WORKS[nurse.contract][1] + numbers.below(6)
+    weekends = numbers.below(3)
     if numbers.below(5) < 3:
         run = 1 + numbers.below(4)
         return NurseHistory(
@@ -95,7 +96,8 @@ def made_up_numbers(scenario: Scenario, history: History, numbers: Numbers) -> D
     """How many nurses are at each place in a made-up roster."""
     there: Dict[Place, int] = {}
     for nurse in scenario.nurses.values():
-        last, left = history.nurses[nurse.name].last_shift, WORKS[nurse.contract][0]
+        last = history.nurses[nurse.name].last_shift
+        left = WORKS[nurse.contract][0]
         for day in range(len(DAYS)):
             works = numbers.below(len(DAYS) - day) < left
             left -= works
@@ -128,7 +130,8 @@ def last_week(scenario: Scenario, history: History, percent: int, numbers: Numbe
         )
         if best:
             asked[place] = Requirement(minimum, best)
-    nurses, shifts = list(scenario.nurses), [None, *scenario.shift_types]
+    nurses = list(scenario.nurses)
+    shifts = [None, *scenario.shift_types]
     requests = (
         Request(numbers.one_of(nurses), numbers.one_of(shifts), numbers.below(len(DAYS)))
         for _ in nurses

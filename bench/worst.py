@@ -82,7 +82,8 @@ def objective_lines(file: TextIO) -> None:
 
 
 def answers() -> Iterator[Tuple[str, Writer, int]]:
-    """The kinds of answers to the week of one nurse: a description, the writer, and the exit status of `decode`."""
+    """The kinds of answers to the week of one nurse: a description, the writer, and the exit status
+    of `decode`."""
     yield "a million o lines", objective_lines, 0
     yield "a skipped line of 100 MB", repeated("c", "x" * MILLION, 100), 1
     yield "a literal of 100 MB", repeated("v x", "0" * MILLION, 100), 1

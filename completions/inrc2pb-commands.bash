@@ -13,6 +13,7 @@ _inrc2pb_command() {
         first=("${COMP_WORDS[1]}")
     fi
     for given in "${COMP_WORDS[@]:1}"; do
+        [[ ${COMP_WORDS[0]} = *inrc2pb-solve ]] || break
         case $given in --inrc2 | --model | --answer) [ "$given" = "$word" ] || first=("$given") ;; esac
     done
     wanted=$("${COMP_WORDS[0]}" "${first[@]}" --help 2> /dev/null | grep -oE -- "$wanted" | sed 's/-h,//')

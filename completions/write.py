@@ -1,8 +1,9 @@
 #!/usr/bin/env python3
-"""Writes the completions of the programs and the Python commands for bash, zsh and fish from one description of the commands and options.
+"""Writes the completions of the programs and the Python commands for bash, zsh and fish from one
+description of the commands and options.
 
-tests/program/manual.sh compares the files with the output of this script, and their words with those of the program's help and of the
-manual page. Needs Python 3.11 or later.
+tests/program/manual.sh compares the files with the output of this script, and their words with
+those of the program's help and of the manual page. Needs Python 3.11 or later.
 """
 
 import argparse
@@ -142,6 +143,7 @@ _inrc2pb_command() {
         first=("${COMP_WORDS[1]}")
     fi
     for given in "${COMP_WORDS[@]:1}"; do
+        [[ ${COMP_WORDS[0]} = *inrc2pb-solve ]] || break
         case $given in --inrc2 | --model | --answer) [ "$given" = "$word" ] || first=("$given") ;; esac
     done
     wanted=$("${COMP_WORDS[0]}" "${first[@]}" --help 2> /dev/null | grep -oE -- "$wanted" | sed 's/-h,//')
@@ -152,22 +154,51 @@ complete -o default -F _inrc2pb_command %(names)s
 
 COMMANDS_ZSH = """\
 #compdef %(names)s
-# Completion of the Python commands' options and file names, for zsh. Written by completions/write.py.
-_gnu_generic
+# Completion of the Python commands' verbs, options and file names, for zsh. Written by completions/write.py.
+_inrc2pb_command() {
+    local word=$words[CURRENT] first=() offered=() given wanted='^ +(-h, )?--[a-zA-Z0-9-]+' place=2
+    # The verb of inrc2pb-plan follows its folder.
+    [[ $words[1] != *inrc2pb-plan ]] || place=3
+    if [[ $word != -* ]]; then
+        # A word that is no option is a verb or a file.
+        (( CURRENT == place )) || { _files; return }
+        wanted='^  [a-z]+ '
+    elif [[ $words[1] = *inrc2pb-roster && $words[2] != -* ]]; then
+        first=($words[2])
+    elif [[ $words[1] = *inrc2pb-solve ]]; then
+        for given in $words; do
+            case $given in (--inrc2|--model|--answer) [[ $given = $word ]] || first=($given) ;; esac
+        done
+    fi
+    offered=($("${(Q)words[1]}" $first --help 2> /dev/null | grep -oE -- $wanted | sed 's/-h,//'))
+    if (( $#offered )); then compadd -a offered; else _files; fi
+}
+_inrc2pb_command "$@"
 """
 
 COMMANDS_FISH = """\
-# Completion of the Python commands' options and file names, for fish. Written by completions/write.py.
-function __inrc2pb_options
+# Completion of the Python commands' verbs, options and file names, for fish. Written by completions/write.py.
+function __inrc2pb_help
     set -l words (commandline -opc)
-    set -l verb
-    if string match -q '*inrc2pb-roster' -- $words[1]; and test (count $words) -gt 1
-        set verb $words[2]
+    set -l first
+    if string match -q '*inrc2pb-roster' -- $words[1]
+        set first $words[2]
+    else if string match -q '*inrc2pb-solve' -- $words[1]
+        set first (string match -r -- '^--(?:inrc2|model|answer)$' $words)[-1]
     end
-    command $words[1] $verb --help 2> /dev/null | string replace -rf '^ +(?:-h, )?(--[a-zA-Z0-9-]+).*' '$1'
+    command $words[1] $first --help 2> /dev/null
+end
+# The verb of inrc2pb-plan follows its folder.
+function __inrc2pb_awaits_verb
+    set -l words (commandline -opc)
+    test (count $words) -eq (string match -q '*inrc2pb-plan' -- $words[1]; and echo 2; or echo 1)
 end
 for name in %(names)s
-    complete -c $name -n 'string match -q -- "-*" (commandline -ct)' -a '(__inrc2pb_options)'
+    complete -c $name -n 'string match -q -- "-*" (commandline -ct)' \\
+        -a '(__inrc2pb_help | string replace -rf "^ +(?:-h, )?(--[a-zA-Z0-9-]+).*" "\\$1")'
+end
+for name in inrc2pb-plan inrc2pb-roster
+    complete -c $name -n __inrc2pb_awaits_verb -f -a '(__inrc2pb_help | string replace -rf "^  ([a-z]+) .*" "\\$1")'
 end
 """
 
@@ -254,7 +285,8 @@ def zsh() -> str:
             " " * 24 + argument(option, *what) for option, what in options.items()
         )
         cases.append(
-            f"                {name})\n                    _arguments \\\n{arguments}\n                    ;;"
+            f"                {name})\n                    _arguments \\\n{arguments}\n            "
+            "        ;;"
         )
     return ZSH % {
         "top": "\n".join(f"        {argument(name, *what)} \\" for name, what in ANY.items()),
@@ -267,7 +299,10 @@ def zsh() -> str:
 
 def fish() -> Iterator[str]:
     """The lines of the completion for fish."""
-    yield "# Completion of inrc2pb's commands, options and file names, for fish. Written by completions/write.py."
+    yield (
+        "# Completion of inrc2pb's commands, options and file names, for fish. Written by"
+        " completions/write.py."
+    )
     yield "complete -c inrc2pb -f"
     for name, (_, about) in ANY.items():
         yield f"complete -c inrc2pb -n __fish_use_subcommand -l {name[2:]} -d {quoted(about)}"
@@ -275,12 +310,18 @@ def fish() -> Iterator[str]:
         yield f"complete -c inrc2pb -n __fish_use_subcommand -a {command} -d {quoted(about)}"
         for option, (kind, meaning) in options.items():
             seen = f"'__fish_seen_subcommand_from {command}'"
-            yield f"complete -c inrc2pb -n {seen} -l {option[2:]}{' -r -F' if kind else ''} -d {quoted(meaning)}"
+            yield (
+                f"complete -c inrc2pb -n {seen} -l {option[2:]}{' -r -F' if kind else ''} -d"
+                f" {quoted(meaning)}"
+            )
 
 
 def plain_fish(program: str) -> Iterator[str]:
     """The lines of the completion of a program of one command for fish."""
-    yield f"# Completion of {program}'s options and file names, for fish. Written by completions/write.py."
+    yield (
+        f"# Completion of {program}'s options and file names, for fish. Written by"
+        " completions/write.py."
+    )
     yield f"complete -c {program} -f"
     for name, (kind, about) in PLAIN[program][0].items():
         yield f"complete -c {program} -l {name[2:]}{' -r -F' if kind else ''} -d {quoted(about)}"

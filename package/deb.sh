@@ -25,7 +25,7 @@ Upstream-Name: inrc2pb
 Comment: The repository states no license. Ask its owner before you pass this package on.
 
 Files: *
-Copyright: the authors of inrc2pb
+Copyright: 2026 the authors of inrc2pb
 License: not-stated
  No license is stated.
 TEXT
@@ -70,9 +70,9 @@ Description: nurse rostering as a pseudo-Boolean model
  prove how much a roster of a week or a period costs at least. Python programs
  plan a ward from a spreadsheet, and find and show rosters.
  .
- The encoding, the decoder, the bounds and every byte read and written, except messages,
- have proofs: /usr/share/doc/inrc2pb/PROVED says whether they passed. The
- programs need an x86-64-v2 processor (Intel since 2009, AMD since 2011).
+ The encoding, the decoder, the bounds and every byte read and written, except
+ messages, have proofs: /usr/share/doc/inrc2pb/PROVED says whether they passed.
+ The programs need an x86-64-v2 processor (Intel since 2009, AMD since 2011).
 TEXT
 set_times "$top"
 dpkg-deb --root-owner-group -Zxz --build "$top" "$folder/inrc2pb_${version}_amd64.deb" > /dev/null || exit

@@ -1,10 +1,12 @@
 #!/usr/bin/env python3
-"""The bound of a certificate for tiny weeks, in plain Python: all choices of each nurse in each week are tried, by the rules of `rules`.
+"""The bound of a certificate for tiny weeks, in plain Python: all choices of each nurse in each
+week are tried, by the rules of `rules`.
 
     certificate_bound.py --sce F --his F --week F.. [--early] [--given F] [--proof F]
 
-prints `lower bound N`, and with --leaves a line for each leaf. Histories that are the same after a week are tried once. This reads the
-text of a certificate itself, so it shares neither the writer nor the tree of the package.
+prints `lower bound N`, and with --leaves a line for each leaf. Histories that are the same after a
+week are tried once. This reads the text of a certificate itself, so it shares neither the writer
+nor the tree of the package.
 """
 
 import argparse
@@ -19,7 +21,7 @@ sys.path.insert(0, str(Path(__file__).resolve().parents[2] / "python"))
 from inrc2pb.judging.next_history import next_history  # noqa: E402
 from inrc2pb.judging.rules import broken, charges  # noqa: E402
 from inrc2pb.week.files import read_history, read_scenario, read_week  # noqa: E402
-from inrc2pb.week.records import (
+from inrc2pb.week.records import (  # noqa: E402
     DAYS,
     Cell,
     History,
@@ -28,9 +30,11 @@ from inrc2pb.week.records import (
     Scenario,
     Week,
     WeekData,
-)  # noqa: E402
+)
 
-POINT, MISSING, NEVER = 1000, 30, 1 << 60
+POINT = 1000
+MISSING = 30
+NEVER = 1 << 60
 # The weight of each kind of charges, and the rules that charge them.
 WEIGHTS = {"SHIFT_RUNS": 15, "WORK_DAYS": 30, "SHIFTS": 20, "WEEKENDS": 30}
 KINDS = tuple(WEIGHTS)
@@ -50,7 +54,8 @@ class Literal(NamedTuple):
 
 
 class Leaf(NamedTuple):
-    """The facts of a leaf, the given ones last, its prices of places with the day of the period, and its surcharges."""
+    """The facts of a leaf, the given ones last, its prices of places with the day of the period,
+    and its surcharges."""
 
     case: List[Literal]
     prices: Dict[Place, int]
@@ -113,11 +118,13 @@ def read_certificate(text: str, weeks: int, given: List[Literal]) -> List[Leaf]:
         prices: Dict[Place, int] = {}
         for week in range(weeks):
             for _ in range(words.named("ROWS")):
-                shift, skill = words.next(), words.next()
+                shift = words.next()
+                skill = words.next()
                 for day in range(7):
                     prices[Place(7 * week + day, shift, skill)] = words.number()
         tables.append(prices)
-    number, leaves = words.named("LEAVES"), []
+    number = words.named("LEAVES")
+    leaves = []
 
     def node(case: List[Literal]) -> None:
         if words.next() == "SPLIT":
@@ -141,7 +148,10 @@ class Period:
     def __init__(
         self, scenario: Scenario, history: History, weeks: List[WeekData], early: bool = False
     ) -> None:
-        self.scenario, self.history, self.weeks, self.early = scenario, history, weeks, early
+        self.scenario = scenario
+        self.history = history
+        self.weeks = weeks
+        self.early = early
         self.choices = [None, *scenario.shift_types]
         self._alone = {
             name: replace(scenario, nurses={name: nurse}) for name, nurse in scenario.nurses.items()
@@ -151,7 +161,8 @@ class Period:
     def week_of(
         self, nurse: str, number: int, past: tuple, choices: Tuple[Optional[str], ...]
     ) -> Optional[tuple]:
-        """What a nurse's week costs, its charges by kind, and her history after it; None if she breaks the rule of successions."""
+        """What a nurse's week costs, its charges by kind, and her history after it; None if she
+        breaks the rule of successions."""
         key = (nurse, number, past, choices)
         if key not in self._known:
             self._known[key] = self._week_of(*key)
@@ -172,7 +183,8 @@ class Period:
         )
         if "H3" in broken(week, cells):
             return None
-        counts, cost = dict.fromkeys(KINDS, 0), 0
+        counts = dict.fromkeys(KINDS, 0)
+        cost = 0
         for charge in charges(week, cells, self.early):
             cost += charge.cost
             what = "shift" if charge.what.startswith("shift") else charge.what
@@ -196,16 +208,20 @@ def _forbidden(period: Period, leaf: Leaf, nurse: str) -> "set[tuple]":
 
 
 def _weights(leaf: Leaf) -> Tuple[Dict[tuple, int], int, "set[tuple]"]:
-    """What a charge of a kind costs a nurse (None: all nurses) more or less, what the bound gains, and the charges that are forbidden."""
+    """What a charge of a kind costs a nurse (None: all nurses) more or less, what the bound gains,
+    and the charges that are forbidden."""
     changes: Dict[tuple, int] = {}
-    gains, never = 0, set()
+    gains = 0
+    never = set()
     for ((kind, *words), holds), surcharge in itertools.zip_longest(
         leaf.case, leaf.surcharges[: len(leaf.case)], fillvalue=0
     ):
         if kind == "EVEN" and not holds:
-            counted, number = ("SHIFT_RUNS", None), 1
+            counted = ("SHIFT_RUNS", None)
+            number = 1
         elif kind == "CHARGES":
-            counted, most = (words[0], words[2] if words[1] == "NURSE" else None), int(words[-1])
+            counted = (words[0], words[2] if words[1] == "NURSE" else None)
+            most = int(words[-1])
             number = -most if holds else most + 1
             if holds and most == 0:
                 never.add(counted)
@@ -220,7 +236,8 @@ def _minimum(
     period: Period, leaf: Leaf, nurse: str, changes: Dict[tuple, int], never: "set[tuple]"
 ) -> int:
     """The minimum that a nurse costs less what she earns, in thousandths."""
-    forbidden, skills = _forbidden(period, leaf, nurse), period.scenario.nurses[nurse].skills
+    forbidden = _forbidden(period, leaf, nurse)
+    skills = period.scenario.nurses[nurse].skills
     added = [sum(changes.get((kind, who), 0) for who in (None, nurse)) for kind in KINDS]
     banned = [any((kind, who) in never for who in (None, nurse)) for kind in KINDS]
     layer = {period.history.nurses[nurse]: 0}
@@ -256,9 +273,11 @@ def _minimum(
 
 
 def _asked(period: Period, leaf: Leaf) -> Tuple[Dict[Place, Requirement], int, bool]:
-    """What each place asks for in a case, how many nurses are given up, and whether a minimum contradicts it."""
+    """What each place asks for in a case, how many nurses are given up, and whether a minimum
+    contradicts it."""
     asked: Dict[Place, Requirement] = {}
-    given_up, none = 0, False
+    given_up = 0
+    none = False
     for number, week in enumerate(period.weeks):
         for place, one in week.requirements.items():
             asked[place._replace(day=7 * number + place.day)] = Requirement(
@@ -266,17 +285,18 @@ def _asked(period: Period, leaf: Leaf) -> Tuple[Dict[Place, Requirement], int, b
             )
     for (kind, *words), holds in leaf.case:
         if kind == "PLACE":
-            place, most = Place(
-                7 * (int(words[0]) - 1) + DAYS.index(words[1]), words[2], words[3]
-            ), int(words[4])
+            place = Place(7 * (int(words[0]) - 1) + DAYS.index(words[1]), words[2], words[3])
+            most = int(words[4])
             present = asked.get(place, Requirement(0, 0))
-            least, best = present.minimum, present.optimal
+            least = present.minimum
+            best = present.optimal
             if holds:
                 none = none or most < least
                 given_up += max(0, best - most)
                 best = min(best, most)
             else:
-                least, best = max(least, most + 1), max(best, most + 1)
+                least = max(least, most + 1)
+                best = max(best, most + 1)
             asked[place] = Requirement(least, best)
     return asked, given_up, none
 

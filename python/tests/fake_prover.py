@@ -1,10 +1,10 @@
 #!/usr/bin/env python3
-"""An `inrc2pb-bound` for tests: `fake_prover.py HOW LOG WORDS..` behaves as HOW says, and writes its words, the text of its certificate and
-that of its given facts to LOG.
+"""An `inrc2pb-bound` for tests: `fake_prover.py HOW LOG WORDS..` behaves as HOW says, and writes
+its words, the text of its certificate and that of its given facts to LOG.
 
-`hang` never ends, also on TERM, `crash` ends by a signal, `fails` has the fault of a program without memory, `lies` prints what is no
-number, `flood` a number of many digits, and a number is the bound. A number after `/` is the bound of a
-certificate with cases.
+`hang` never ends, also on TERM, `crash` ends by a signal, `fails` has the fault of a program
+without memory, `lies` prints what is no number, `flood` a number of many digits, and a number is
+the bound. A number after `/` is the bound of a certificate with cases.
 """
 
 import json

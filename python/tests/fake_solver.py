@@ -1,9 +1,10 @@
 #!/usr/bin/env python3
 """A solver for tests: `fake_solver.py HOW MODEL` behaves as HOW says.
 
-`crash` ends by a signal, `silent` prints nothing, `nonsense` prints bytes that are no answer, `flood` prints them without
-end, `rejected` prints an answer that breaks the model, `liar` says that no roster exists, `unsupported` that it cannot read
-the model, `lazy` gives up at once, and `deaf` ignores TERM and never ends.
+`crash` ends by a signal, `silent` prints nothing, `nonsense` prints bytes that are no answer,
+`flood` prints them without end, `rejected` prints an answer that breaks the model, `liar` says that
+no roster exists, `unsupported` that it cannot read the model, `lazy` gives up at once, and `deaf`
+ignores TERM and never ends.
 """
 
 import os

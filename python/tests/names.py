@@ -1,5 +1,6 @@
 #!/usr/bin/env python3
-"""Finds variables with a preposition for a name, `of` or `at`, in the Python files of the repository.
+"""Finds variables with a preposition for a name, `of` or `at`, in the Python files of the
+repository.
 
 usage: names.py [FILE]..
 

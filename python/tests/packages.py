@@ -1,6 +1,7 @@
 #!/usr/bin/env python3
-"""Checks the imports between the modules of the Python package: one package may import only what allowed.txt lists for it, no modules
-import one another in a circle, and no module imports a private name of another.
+"""Checks the imports between the modules of the Python package: one package may import only what
+allowed.txt lists for it, no modules import one another in a circle, and no module imports a private
+name of another. Modules of a package that allowed.txt calls `apart` do not import one another.
 
   python/tests/packages.py [FOLDER [ALLOWED]]
 
@@ -63,6 +64,8 @@ def faults(folder: Path, allowed: Dict[str, Set[str]]) -> Iterator[str]:
             imports[module].add(source)
             if len(module) > 1 and source[0] not in (module[0], *allowed.get(module[0], ())):
                 yield f"{named} imports {'.'.join(source)}: {module[0]} may not import {source[0]}"
+            if source[:-1] == module[:-1] and "apart" in allowed.get(".".join(module[:-1]), ()):
+                yield f"{named} imports {'.'.join(source)}: these do not know one another"
             if name.startswith("_"):
                 yield f"{named} imports {name}, a private name of {'.'.join(source)}"
     for module in in_circles(imports):

@@ -1,5 +1,6 @@
 #!/usr/bin/env python3
-"""Prints the first hard rule that a roster of one week breaks, or its costs, as `judging.rules` has them: to be compared with the program.
+"""Prints the first hard rule that a roster of one week breaks, or its costs, as `judging.rules` has
+them: to be compared with the program.
 
   python/tests/rules_command.py --sce FILE --his FILE --week FILE [--fix FILE] [--early] ROSTER
 """

@@ -8,7 +8,8 @@ from ward import HelperTest
 
 class Imports(HelperTest):
     def faults(self, **modules):
-        """The faults of a library in which `high` may import `low`, with these modules in place of its own."""
+        """The faults of a library in which `high` may import `low`, with these modules in place of
+        its own."""
         texts = {
             "low/one": "from .two import name\n",
             "low/two": "name = 1\n",
@@ -19,9 +20,10 @@ class Imports(HelperTest):
             **{module.replace("_", "/"): text for module, text in modules.items()},
         }.items():
             path = self.folder / f"{module}.py"
-            path.parent.mkdir(exist_ok=True)
+            path.parent.mkdir(parents=True, exist_ok=True)
             path.write_text(text)
-        return list(packages.faults(self.folder, {"high": {"low"}, "low": set()}))
+        allowed = {"high": {"low"}, "low": set(), "high.verbs": {"apart"}}
+        return list(packages.faults(self.folder, allowed))
 
     def test_doors_that_are_allowed(self):
         self.assertEqual(self.faults(), [])
@@ -43,6 +45,14 @@ class Imports(HelperTest):
         self.assertEqual(
             found, ["low.one is in a circle of imports", "low.two is in a circle of imports"]
         )
+
+    def test_modules_that_do_not_know_one_another(self):
+        found = self.faults(high_verbs_ill="from .back import name\n", high_verbs_back="name = 1\n")
+        self.assertEqual(
+            found, ["high.verbs.ill imports high.verbs.back: these do not know one another"]
+        )
+        found = self.faults(high_verbs_ill="from ..three import two\n")
+        self.assertEqual(found, [])
 
     def test_a_private_name(self):
         self.assertEqual(

@@ -1,6 +1,7 @@
 """The example weeks, and runs of the commands, for the tests of this folder."""
 
 import contextlib
+import datetime
 import os
 import shutil
 import signal
@@ -39,13 +40,17 @@ EARLY_ANSWER = ROOT / "tests" / "data" / "thirty_clasp_early.txt"
 if signal.getsignal(signal.SIGINT) == signal.SIG_IGN:
     signal.signal(signal.SIGINT, signal.default_int_handler)
 HAS_CLASP, HAS_CBC = (shutil.which(name) is not None for name in ("clasp", "cbc"))
-# The seconds of a search that ends by itself, with a proof, and of a wait for what comes at once. No test takes them, on a machine that is
-# ten times slower neither: a test in which the time of a search has to end says when (`time_ends_at`).
+# All weeks of the tests have ended, but for those of tests that say which day it is.
+clock.today = lambda: datetime.date(9999, 12, 31)
+# The seconds of a search that ends by itself, with a proof, and of a wait for what comes at once.
+# No test takes them, on a machine that is ten times slower neither: a test in which the time of a
+# search has to end says when (`time_ends_at`).
 ENOUGH = 120
 
 
 def run(command, *words, environment=None):
-    """Runs a command in a copy of this process, where its library is loaded; its status, standard output and standard error."""
+    """Runs a command in a copy of this process, where its library is loaded; its status, standard
+    output and standard error."""
     output, printed = os.pipe()
     with open(output, "rb") as pipe, tempfile.TemporaryFile() as said:
         child = os.fork()
@@ -63,8 +68,8 @@ def run(command, *words, environment=None):
 
 
 def run_here(command, words, environment, printed, said):
-    """Runs a command in this process, with these descriptors for its output; its status. The words, the environment and the output
-    of the process are then those of the command."""
+    """Runs a command in this process, with these descriptors for its output; its status. The words,
+    the environment and the output of the process are then those of the command."""
     os.dup2(printed, 1)
     os.dup2(said, 2)
     os.close(printed)
@@ -85,9 +90,11 @@ def run_here(command, words, environment, printed, said):
 
 @contextlib.contextmanager
 def time_ends_at(event):
-    """Within the block the time of a search ends when it has the first roster (`improved`), or its bound (`bound_rose`), and not before
-    that. This holds for the commands of `run`, which begin as copies of this process."""
-    passed, told = [0.0], getattr(progress.Progress, event)
+    """Within the block the time of a search ends when it has the first roster (`improved`), or its
+    bound (`bound_rose`), and not before that. This holds for the commands of `run`, which begin as
+    copies of this process."""
+    passed = [0.0]
+    told = getattr(progress.Progress, event)
 
     def tells(*words):
         told(*words)
@@ -123,7 +130,8 @@ class HelperTest(unittest.TestCase):
         return target
 
     def away(self, *absences, week=WEEK, name="away.txt"):
-        """A copy of a week's file in which nurses are away, such as `Chen=Fri,Sat`, or `Chen` on all days: each as many equal requests."""
+        """A copy of a week's file in which nurses are away, such as `Chen=Fri,Sat`, or `Chen` on
+        all days: each as many equal requests."""
         scenario = files.read_scenario(SCENARIO)
         found = []
         for text in absences:
@@ -155,13 +163,15 @@ class HelperTest(unittest.TestCase):
         return path
 
     def answers_once(self, early=False):
-        """A solver that has an answer of penalty 20 to the ward's week when it is called first, and none later."""
+        """A solver that has an answer of penalty 20 to the ward's week when it is called first, and
+        none later."""
         answer = self.folder / "answer.txt"
         answer.write_text(program.answer_with(replace(WEEK_FILES, early=early), ROSTER))
         return f"sh -c 'mkdir {self.folder}/called 2> /dev/null && cat {answer}'"
 
     def slow_to_encode(self, running):
-        """The environment of a program whose `encode` makes the file `running`, and does not end in the time of a test."""
+        """The environment of a program whose `encode` makes the file `running`, and does not end in
+        the time of a test."""
         encodes = f'[ "$1" != encode ] || {{ touch {running}; exec sleep 200; }}'
         return {
             "INRC2PB": str(

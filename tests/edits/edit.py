@@ -1,4 +1,5 @@
-"""An edit of `must-fail`: a wrong body, or a wrong line of a definition, that the prover has to refuse."""
+"""An edit of `must-fail`: a wrong body, or a wrong line of a definition, that the prover has to
+refuse."""
 
 from pathlib import Path
 from typing import Dict, Iterable, List, NamedTuple, Tuple
@@ -17,7 +18,8 @@ class Change(NamedTuple):
 
 
 class Edit(NamedTuple):
-    """The edit `must-fail/NAME.edit` of a crate: its text, and the changes that this text states."""
+    """The edit `must-fail/NAME.edit` of a crate: its text, and the changes that this text
+    states."""
 
     crate: str
     name: str
@@ -26,8 +28,11 @@ class Edit(NamedTuple):
 
 
 def changes_of(text: str) -> Tuple[Change, ...]:
-    """The changes that the text of an edit states: lines `file: PATH`, and pairs of `old: LINE` and `new: LINE`."""
-    path, old, found = "", "", []
+    """The changes that the text of an edit states: lines `file: PATH`, and pairs of `old: LINE` and
+    `new: LINE`."""
+    path = ""
+    old = ""
+    found = []
     for line in text.split("\n"):
         if line.startswith("file: "):
             path = line[len("file: ") :].strip()
@@ -48,7 +53,8 @@ def edits_of(crate: str, folder: Path) -> List[Edit]:
 
 
 def edited(edits: Iterable[Edit], folder: Path) -> Dict[str, str]:
-    """The texts of the files that these edits change together, by their paths below the crate's folder.
+    """The texts of the files that these edits change together, by their paths below the crate's
+    folder.
 
     Raises Unfit if a line that an edit changes is not in its file exactly once.
     """

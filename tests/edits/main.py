@@ -1,20 +1,26 @@
 #!/usr/bin/env python3
-"""Tries the edits of crates/*/must-fail, each of which the prover has to refuse, and keeps what refused them.
+"""Tries the edits of crates/*/must-fail, each of which the prover has to refuse, and keeps what
+refused them.
 
-usage: main.py [--anew] [--alone] [--both] [--built] [CRATE..]
+usage: main.py [--anew] [--alone] [--both] [--built] [--again=TEXT] [CRATE..]
        main.py write
 
-  --anew   try all edits, and take nothing from the record
-  --alone  try each edit in a check of its own
-  --both   try all edits, and then each by `rt must-fail` too, which has to say the same; leave that result in out/edits/alone
-  --built  the crates are proved as they are, and their libraries in crates/*/out/rlib: `rt ci` has just done that
-  CRATE    only the edits of these crates
-  write    write the record of the last run into crates/*/edits.txt
+  --anew        try all edits, and take nothing from the record
+  --alone       try each edit in a check of its own
+  --both        try all edits, and then each by `rt must-fail` too, which has to say the
+                same; leave that result in out/edits/alone
+  --built       the crates are proved as they are, and their libraries in crates/*/out/rlib:
+                `rt ci` has just done that
+  --again=TEXT  try one recorded edit of each of three crates again, which this text chooses:
+                the goals have to be those of the record
+  CRATE         only the edits of these crates
+  write         write the record of the last run into crates/*/edits.txt
 
-An edit is tried unless the record, crates/*/edits.txt, has it with its present checksum. First build.py builds the libraries below the
-crates with edits to try, unless they are built. Edits of different functions are tried in one check (rounds.py), the crates side by side.
-The run leaves the new record in out/edits, and prints an edit that is not refused. The last line is `N passed, M failed`, with one for each
-edit.
+An edit is tried unless the record, crates/*/edits.txt, has it with its present checksum. First
+build.py builds the libraries below the crates with edits to try, unless they are built. Edits of
+different functions are tried in one check (rounds.py), the crates side by side. The run leaves the
+new record in out/edits, and prints an edit that is not refused. The last line is
+`N passed, M failed`, with one for each edit.
 """
 
 import shutil
@@ -26,6 +32,7 @@ from typing import Dict, List, NamedTuple, Tuple
 
 sys.path.insert(0, str(Path(__file__).resolve().parents[2]))
 
+import again  # noqa: E402
 import build  # noqa: E402
 import one_by_one  # noqa: E402
 import record  # noqa: E402
@@ -34,21 +41,26 @@ from prover import ROOMS  # noqa: E402
 from record import Entry  # noqa: E402
 from trial import Outcome, Trials  # noqa: E402
 
+FLAGS = ("--anew", "--alone", "--both", "--built")
+AGAIN = "--again="
 NEW = build.OUT / "edits"
 # Says at which values the goals of the edits that only answers refuse are false.
 VALUES = "tests/pages/refused_by_answers.txt"
 
 
 class Plan(NamedTuple):
-    """The edits of some crates: those whose refusal is in the record, and those to try; and the checksum of each."""
+    """The edits of some crates: those whose refusal is taken from the record, those to try, and of
+    these the ones whose refusal is compared with the record; and the checksum of each."""
 
     recorded: Dict[Edit, Entry]
     untried: List[Edit]
+    compared: Dict[Edit, Entry]
     checksums: Dict[Edit, str]
 
 
 def crates_with_edits(names: List[str]) -> Tuple[Dict[str, build.Crate], List[str]]:
-    """These crates, or all if none is named, with those below them; and the names of those that have edits."""
+    """These crates, or all if none is named, with those below them; and the names of those that
+    have edits."""
     listed = [
         line.partition("#")[0].partition(":")[0].split()
         for line in (build.ROOT / "crates.txt").read_text().splitlines()
@@ -64,17 +76,25 @@ def crates_with_edits(names: List[str]) -> Tuple[Dict[str, build.Crate], List[st
 def plan(crates: Dict[str, build.Crate], names: List[str], anew: bool) -> Plan:
     """Which edits of the crates of these names are to be tried."""
     sums = build.sums_of_sources(crates)
-    made = Plan({}, [], {})
+    judge = record.sum_of_judge()
+    made = Plan({}, [], {}, {})
     for name in names:
         known = {} if anew else record.read(crates[name].home / "edits.txt")
         for edit in edits_of(name, crates[name].home):
-            checksum = made.checksums[edit] = record.checksum(edit, sums[name])
+            checksum = made.checksums[edit] = record.checksum(edit, sums[name], judge)
             entry = known.get(edit.name)
             if entry is not None and entry.checksum == checksum:
                 made.recorded[edit] = entry
             else:
                 made.untried.append(edit)
     return made
+
+
+def with_some_again(made: Plan, text: str) -> Plan:
+    """The plan in which recorded edits that this text chooses are tried, too."""
+    compared = {edit: made.recorded[edit] for edit in again.chosen(made.recorded, text)}
+    recorded = {edit: entry for edit, entry in made.recorded.items() if edit not in compared}
+    return Plan(recorded, [*made.untried, *compared], compared, made.checksums)
 
 
 def stale_of(crates: Dict[str, build.Crate], names: List[str]) -> List[str]:
@@ -101,7 +121,8 @@ def plural(count: int, what: str) -> str:
 def tried(
     crates: Dict[str, build.Crate], made: Plan, each_alone: bool, are_proved: bool
 ) -> Dict[Edit, Outcome]:
-    """Tries the edits of the plan. The record in `out/edits` has each as soon as it is refused, also if the run is ended."""
+    """Tries the edits of the plan. The record in `out/edits` has each as soon as it is refused,
+    also if the run is ended."""
     by_crate: Dict[str, List[Edit]] = {}
     for edit in made.untried:
         by_crate.setdefault(edit.crate, []).append(edit)
@@ -119,8 +140,25 @@ def tried(
         shutil.rmtree(ROOMS, ignore_errors=True)
     if made.untried:
         print(
-            f"edits: {plural(len(made.untried), 'edit')} in {plural(trials.checks, 'check')}, {trials.processor:.0f} s of processor time"
+            f"edits: {plural(len(made.untried), 'edit')} in {plural(trials.checks, 'check')},"
+            f" {trials.processor:.0f} s of processor time"
         )
+    return outcomes
+
+
+def tried_with_another_turn(
+    crates: Dict[str, build.Crate], made: Plan, each_alone: bool, are_proved: bool
+) -> Dict[Edit, Outcome]:
+    """Tries the edits of the plan. If a signal ends the check of one that is to be compared with
+    the record, it gets another turn; if that is ended too, the record is taken."""
+    outcomes = tried(crates, made, each_alone, are_proved)
+    lost = list(again.unended(made.compared, outcomes))
+    if lost:
+        outcomes.update(tried(crates, made._replace(untried=lost), each_alone, are_proved))
+    for edit, entry in again.unended(made.compared, outcomes).items():
+        print(f"edits: note: {edit.crate}/{edit.name}: {outcomes[edit].fault} twice")
+        made.recorded[edit] = entry
+        del outcomes[edit]
     return outcomes
 
 
@@ -158,12 +196,16 @@ def tell(
     for edit, entry in entries.items():
         if record.rests_on_answers(entry):
             print(
-                f"edits: note: only answers that no longer fit refuse {edit.crate}/{edit.name}; its line is in {VALUES}"
+                f"edits: note: only answers that no longer fit refuse {edit.crate}/{edit.name}; its"
+                f" line is in {VALUES}"
             )
     print(f"edits: {len(outcomes)} tried, {len(made.recorded)} taken from the record")
+    for edit in made.compared:
+        print(f"edits: the record has {edit.crate}/{edit.name}, and it was tried again")
     if names:
         print(
-            f"edits: the record differs from that of the tree for {', '.join(names)}: 'tests/edits/main.py write' writes it there"
+            f"edits: the record differs from that of the tree for {', '.join(names)}:"
+            " 'tests/edits/main.py write' writes it there"
         )
     return len(failed)
 
@@ -194,18 +236,23 @@ def run(words: List[str]) -> int:
         print(f"edits: STALE: the record has {one}, and there is no such edit any more")
     both = "--both" in words
     made = plan(crates, names, both or "--anew" in words)
+    for word in (word for word in words if word.startswith(AGAIN)):
+        made = with_some_again(made, word[len(AGAIN) :])
     if "--built" not in words and not build_below(crates, made.untried):
         print(
-            "edits: a crate is not proved, so no edits of those above it were tried\n0 passed, 1 failed"
+            "edits: a crate is not proved, so no edits of those above it were tried\n0 passed, 1"
+            " failed"
         )
         return 1
-    outcomes = tried(crates, made, "--alone" in words, "--built" in words)
+    outcomes = tried_with_another_turn(crates, made, "--alone" in words, "--built" in words)
     if made.checksums != plan(crates, names, True).checksums:
         print("edits: files changed while the edits were tried: try them again\n0 passed, 1 failed")
         return 1
     entries = {**made.recorded, **entries_of(made, outcomes)}
     leave(names, entries)
-    differ = one_by_one.differences(entries, one_by_one.must_fail(names)) if both else {}
+    differ = again.differences(made.compared, outcomes)
+    if both:
+        differ.update(one_by_one.differences(entries, one_by_one.must_fail(names)))
     for edit, why in differ.items():
         print(f"edits: {edit.crate}/{edit.name}: {why}")
         del entries[edit]
@@ -223,8 +270,7 @@ def main(words: List[str]) -> int:
         write()
         return 0
     if any(
-        word.startswith("--") and word not in ("--anew", "--alone", "--both", "--built")
-        for word in words
+        word.startswith("--") and word not in FLAGS and not word.startswith(AGAIN) for word in words
     ):
         print(__doc__, file=sys.stderr)
         return 2

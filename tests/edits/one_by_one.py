@@ -1,4 +1,5 @@
-"""Tries all edits one by one by `rt must-fail`, and compares what it says with what the rounds said of them."""
+"""Tries all edits one by one by `rt must-fail`, and compares what it says with what the rounds said
+of them."""
 
 import re
 import subprocess
@@ -20,7 +21,8 @@ class Trial(NamedTuple):
 
 
 def from_nothing() -> List[str]:
-    """The word with which `rt must-fail` takes no result of an earlier run; none if this kit keeps no results."""
+    """The word with which `rt must-fail` takes no result of an earlier run; none if this kit keeps
+    no results."""
     guide = subprocess.run(
         ["rt", "help"], stdout=subprocess.PIPE, stderr=subprocess.STDOUT, text=True
     )
@@ -51,13 +53,17 @@ def must_fail(names: List[str]) -> Dict[Tuple[str, str], Trial]:
 
 
 def difference(entry: Entry, trial: Trial) -> str:
-    """How the two trials of an edit differ, or nothing. `rt must-fail` names the first goal that it meets."""
+    """How the two trials of an edit differ, or nothing. `rt must-fail` names the first goal that it
+    meets."""
     if not trial.is_refused:
         return f"alone it is not refused: {trial.told}"
     named = NAME.search(trial.told)
     goal = (named[1] or named[2]) if named else ""
     if goal and goal not in {one.name for one in entry.goals}:
-        return f"alone it is refused by {goal}, and in a round by {', '.join(sorted(one.name for one in entry.goals))}"
+        return (
+            f"alone it is refused by {goal}, and in a round by"
+            f" {', '.join(sorted(one.name for one in entry.goals))}"
+        )
     return ""
 
 

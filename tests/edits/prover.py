@@ -1,8 +1,10 @@
-"""The checks with edits in place, each of a copy of a crate, over libraries of the crates below it that are built already.
+"""The checks with edits in place, each of a copy of a crate, over libraries of the crates below it
+that are built already.
 
-Such libraries are below crates/*/out/rlib: those of build.py, or those that `rt ci` has just built. `rt check` would build the latter
-anew, because they hold statements alone, so a check calls `rattle` itself, with the words that `rt ci` gives it. What a check proves of the
-crate is kept for the next one.
+Such libraries are below crates/*/out/rlib: those of build.py, or those that `rt ci` has just built.
+`rt check` would build the latter anew, because they hold statements alone, so a check calls
+`rattle` itself, with the words that `rt ci` gives it. What a check proves of the crate is kept for
+the next one.
 """
 
 import contextlib
@@ -24,10 +26,12 @@ ROOMS = build.OUT / "edits" / "rooms"
 
 
 class Check(NamedTuple):
-    """A check with edits in place: what it said, its last lines, and its seconds of processor time."""
+    """A check with edits in place: what it said, its last lines, whether a signal ended it, and its
+    seconds of processor time."""
 
     verdict: Verdict
     tail: str
+    is_killed: bool
     processor: float
 
 
@@ -48,7 +52,8 @@ def check_words(
     crate: build.Crate, crates: Dict[str, build.Crate], jobs: int, kept: Path
 ) -> List[str]:
     """The command that checks the crate in a folder with its sources, over what was kept."""
-    folder, used = kit(), crate.line.partition("#")[0].partition(":")[2].split()
+    folder = kit()
+    used = crate.line.partition("#")[0].partition(":")[2].split()
     words = [
         f"{folder}/bin/rattle",
         "check",
@@ -73,7 +78,8 @@ def check_words(
 
 
 def link_checked(source: str, target: str) -> None:
-    """Gives a file of kept work to a room: a check replaces a checked module, and writes into other files."""
+    """Gives a file of kept work to a room: a check replaces a checked module, and writes into other
+    files."""
     if source.endswith(".oantt"):
         os.link(source, target)
     else:
@@ -81,9 +87,10 @@ def link_checked(source: str, target: str) -> None:
 
 
 def kept_work(crate: build.Crate) -> Path:
-    """The folder of what checks of the crate keep for the next one. It begins with what a check in the crate's own folder has kept, if
-    there is one."""
-    folder, own = ROOMS / crate.name / "kept", crate.home / "out" / "incremental"
+    """The folder of what checks of the crate keep for the next one. It begins with what a check in
+    the crate's own folder has kept, if there is one."""
+    folder = ROOMS / crate.name / "kept"
+    own = crate.home / "out" / "incremental"
     if not folder.exists():
         folder.mkdir(parents=True)
         if own.exists():
@@ -92,7 +99,8 @@ def kept_work(crate: build.Crate) -> Path:
 
 
 def copy_with(edits: Iterable[Edit], crate: build.Crate) -> Path:
-    """A folder with the crate's sources, in which the edits are in place. Raises Unfit if they do not fit."""
+    """A folder with the crate's sources, in which the edits are in place. Raises Unfit if they do
+    not fit."""
     texts = edited(edits, crate.home)
     folder = ROOMS / crate.name / "tree"
     shutil.rmtree(folder, ignore_errors=True)
@@ -112,9 +120,10 @@ def check(
     jobs: int,
     running: Set[int],
 ) -> Check:
-    """Checks the crate with these edits, by this number of jobs. Its process, which leads a group, is among those that are running as long
-    as it is. Raises Unfit if the edits do not fit."""
-    folder, log = copy_with(edits, crate), ROOMS / crate.name / "log"
+    """Checks the crate with these edits, by this number of jobs. Its process, which leads a group,
+    is among those that are running as long as it is. Raises Unfit if the edits do not fit."""
+    folder = copy_with(edits, crate)
+    log = ROOMS / crate.name / "log"
     words = check_words(crate, crates, jobs, kept_work(crate))
     with log.open("wb") as out:
         process = subprocess.Popen(
@@ -130,7 +139,9 @@ def check(
     running.discard(process.pid)
     process.returncode = os.waitstatus_to_exitcode(status)
     output = log.read_text(encoding="utf-8", errors="replace")
-    return Check(verdict_of(output), output[-1500:], used.ru_utime + used.ru_stime)
+    return Check(
+        verdict_of(output), output[-1500:], process.returncode < 0, used.ru_utime + used.ru_stime
+    )
 
 
 def stop(running: Set[int]) -> None:

@@ -1,11 +1,14 @@
-"""The record of refusals, `crates/NAME/edits.txt`: which goals refused each edit, and a checksum of all that this depends on.
+"""The record of refusals, `crates/NAME/edits.txt`: which goals refused each edit, and a checksum of
+all that this depends on.
 
-A line has the edit, the checksum, the function and the goal, and the word `answer` where the only reason is an answer that no longer fits:
+A line has the edit, the checksum, the function and the goal, and the word `answer` where the only
+reason is an answer that no longer fits:
 
     sign_ends_no_word 5f0c.. rota_layout::cursor::token_len returns-else-is_sign-clause-token
 
-An edit has a line for each goal. Its checksum is of the edit's text, and of the sources of the crate and of those below it, the kit and
-HANDLES, as build.py has it: after any change of these the edit is tried again.
+An edit has a line for each goal. Its checksum is of the edit's text, of the sources of the crate and
+of those below it, the kit and HANDLES, as build.py has it, and of the programs of this folder, which
+judge what the prover says: after any change of these the edit is tried again.
 """
 
 import hashlib
@@ -15,7 +18,10 @@ from typing import Dict, FrozenSet, Iterable, List, NamedTuple
 from edit import Edit
 from verdict import Goal
 
-HEAD = "# What refused each edit of must-fail/; 'make edits' writes it, and CONTRIBUTING.md explains it.\n"
+HEAD = (
+    "# What refused each edit of must-fail/; 'make edits' writes it, and CONTRIBUTING.md explains"
+    " it.\n"
+)
 ANSWER = "answer"
 DIGITS = 32
 
@@ -27,9 +33,19 @@ class Entry(NamedTuple):
     goals: FrozenSet[Goal]
 
 
-def checksum(edit: Edit, sources: str) -> str:
-    """The checksum of the edit and of these sources."""
-    return hashlib.sha256(f"{sources} {edit.name}\n{edit.text}".encode()).hexdigest()[:DIGITS]
+def sum_of_judge() -> str:
+    """A checksum of the programs of this folder: of their names and their bytes, and nothing
+    else."""
+    whole = hashlib.sha256()
+    for file in sorted(Path(__file__).parent.glob("*.py")):
+        whole.update(repr((file.name, file.read_bytes())).encode())
+    return whole.hexdigest()
+
+
+def checksum(edit: Edit, sources: str, judge: str) -> str:
+    """The checksum of the edit, of these sources and of the judge."""
+    whole = f"{sources} {judge} {edit.name}\n{edit.text}"
+    return hashlib.sha256(whole.encode()).hexdigest()[:DIGITS]
 
 
 def line(name: str, entry: Entry, goal: Goal) -> str:
@@ -50,7 +66,8 @@ def text_of(entries: Dict[str, Entry]) -> str:
 
 
 def read_lines(lines: Iterable[str]) -> Dict[str, Entry]:
-    """The entries of a record. An edit with lines of several checksums, as after a merge, has none of them."""
+    """The entries of a record. An edit with lines of several checksums, as after a merge, has none
+    of them."""
     found: Dict[str, List[Entry]] = {}
     for words in (one.split() for one in lines if not one.startswith("#")):
         if len(words) in (4, 5):
@@ -75,5 +92,6 @@ def read(file: Path) -> Dict[str, Entry]:
 
 
 def rests_on_answers(entry: Entry) -> bool:
-    """Whether the edit is refused only by answers that no longer fit, which says little of the contract."""
+    """Whether the edit is refused only by answers that no longer fit, which says little of the
+    contract."""
     return all(goal.only_answer for goal in entry.goals)

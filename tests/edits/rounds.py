@@ -1,9 +1,10 @@
 """The rounds of edits that are tried in one check.
 
-An edit of a function's body changes no contract, and the prover proves each function from the contracts of those that it calls. So the
-goals of a function are the same whether another function is edited too or not, and edits of several functions can be tried together: the
-check names the open goals of each of them. A round has one edit of a function. An edit of something else, such as a definition, is tried
-alone.
+An edit of a function's body changes no contract, and the prover proves each function from the
+contracts of those that it calls. So the goals of a function are the same whether another function
+is edited too or not, and edits of several functions can be tried together: the check names the open
+goals of each of them. A round has one edit of a function. An edit of something else, such as a
+definition, is tried alone.
 """
 
 import re
@@ -19,8 +20,9 @@ BLOCK = re.compile(
 
 
 class Place(NamedTuple):
-    """A function: its file, the type or the module that it belongs to and its name, as the prover has them, and its lines, up to the next
-    function; attributes and comments above its head are the function's."""
+    """A function: its file, the type or the module that it belongs to and its name, as the prover
+    has them, and its lines, up to the next function; attributes and comments above its head are the
+    function's."""
 
     path: str
     owner: str
@@ -30,7 +32,8 @@ class Place(NamedTuple):
 
 
 class Round(NamedTuple):
-    """Edits of a crate that are tried in one check, and for each the functions that it changes; none where it changes something else."""
+    """Edits of a crate that are tried in one check, and for each the functions that it changes;
+    none where it changes something else."""
 
     edits: Tuple[Edit, ...]
     changes: Tuple[FrozenSet[Place], ...]
@@ -46,7 +49,8 @@ class Round(NamedTuple):
 
 
 def owner_of(header: str) -> str:
-    """The name that the prover gives an `impl` with this header: its type's, and its trait's behind it."""
+    """The name that the prover gives an `impl` with this header: its type's, and its trait's behind
+    it."""
     parts = [
         re.match(r"(?:&(?:'\w+ )?(?:mut )?)?(?:\w+::)*(\w+)", part.strip())
         for part in header.split(" for ")
@@ -66,9 +70,11 @@ def functions_of(path: str, text: str) -> List[Place]:
     """The functions of a source file, in its order."""
     lines = text.split("\n")
     module = Path(path).stem
-    owner, heads = module, []
+    owner = module
+    heads = []
     for number, line in enumerate(lines, 1):
-        head, block = FUNCTION.match(line), BLOCK.match(line)
+        head = FUNCTION.match(line)
+        block = BLOCK.match(line)
         if block:
             owner = owner_of(block[1])
         elif line.startswith("}"):
@@ -82,7 +88,8 @@ def functions_of(path: str, text: str) -> List[Place]:
 
 
 def places_of(edit: Edit, texts: Dict[str, str]) -> Optional[FrozenSet[Place]]:
-    """The functions that the edit changes, or None if it changes something else too, or does not fit these source files."""
+    """The functions that the edit changes, or None if it changes something else too, or does not
+    fit these source files."""
     found = set()
     for path, old, _ in edit.changes:
         text = texts.get(path, "")
@@ -108,7 +115,8 @@ def can_join(edit: Edit, changed: FrozenSet[Place], round: Round, folder: Path) 
 
 
 def rounds_of(edits: List[Edit], folder: Path) -> List[Round]:
-    """The rounds in which these edits of a crate, whose folder is given, are tried: each in the first one that it can join."""
+    """The rounds in which these edits of a crate, whose folder is given, are tried: each in the
+    first one that it can join."""
     texts = {
         str(file.relative_to(folder)): file.read_text(encoding="utf-8")
         for file in (folder / "src").rglob("*.rt")

@@ -1,7 +1,9 @@
-"""Tries edits: the rounds of a crate one after another, those of several crates side by side, and alone what a round does not settle.
+"""Tries edits: the rounds of a crate one after another, those of several crates side by side, and
+alone what a round does not settle.
 
-The first round of a crate is a check from nothing, unless a check in its folder has kept its work. All functions but the edited ones are
-proved in it, and the next round only proves what the rounds before it did not. So no crate is proved once more for its edits alone.
+The first round of a crate is a check from nothing, unless a check in its folder has kept its work.
+All functions but the edited ones are proved in it, and the next round only proves what the rounds
+before it did not. So no crate is proved once more for its edits alone.
 """
 
 import os
@@ -24,10 +26,13 @@ from verdict import NO_LONGER_FITS, Function, Goal, Verdict, is_readable  # noqa
 MEMORY = 2_500_000
 # A round without edits: it shows that the crate is proved as it is.
 AS_IT_IS = Round((), ())
+# The fault of an edit whose check came to no verdict.
+NOT_ENDED = "NOT ENDED: a signal ended the check"
 
 
 class Outcome(NamedTuple):
-    """What the trial of an edit came to: the goals that refused it, or, if there are none, why it is not refused."""
+    """What the trial of an edit came to: the goals that refused it, or, if there are none, why it
+    is not refused."""
 
     goals: FrozenSet[Goal]
     fault: str
@@ -37,7 +42,8 @@ class Outcome(NamedTuple):
 
 
 def place_of(function: Function, places: List[Place]) -> Optional[Place]:
-    """The function of the source that a check names, by where its goals stand, or else by its name; None if that is not clear."""
+    """The function of the source that a check names, by where its goals stand, or else by its name;
+    None if that is not clear."""
     if function.lines:
         found = {
             next(
@@ -55,8 +61,8 @@ def place_of(function: Function, places: List[Place]) -> Optional[Place]:
 
 
 def refused(round: Round, said: Verdict, places: List[Place]) -> Dict[Edit, FrozenSet[Goal]]:
-    """The edits of the round that are refused, each by open goals of the functions that it changes; none if any other function has an
-    open goal of its own, or anything could not be read."""
+    """The edits of the round that are refused, each by open goals of the functions that it changes;
+    none if any other function has an open goal of its own, or anything could not be read."""
     if said.proved is not False or said.others or not is_readable(said):
         return {}
     goals: Dict[Place, Set[Goal]] = {place: set() for place in round.changed}
@@ -72,11 +78,24 @@ def refused(round: Round, said: Verdict, places: List[Place]) -> Dict[Edit, Froz
     return {edit: one for edit, one in found.items() if one}
 
 
+def changes_definitions(edit: Edit) -> bool:
+    """Whether the edit changes a definition, and not a body alone."""
+    return any(change.path.startswith("specs/") for change in edit.changes)
+
+
+def is_of_a_law(goal: Goal) -> bool:
+    """Whether the goal is of a law, or of a module of lemmas, whose name has a capital."""
+    _, folder, module, *_ = [*goal.function.split("::"), ""]
+    return folder == "laws" or folder == "proofs" and module[:1].isupper()
+
+
 def alone(edit: Edit, made: Check) -> Outcome:
     """What a check with this edit alone, of a crate that is proved as it is, says of the edit."""
     said = made.verdict
     if said.proved:
         return Outcome(frozenset(), "NOT REFUSED: the crate is proved with this edit")
+    if made.is_killed:
+        return Outcome(frozenset(), NOT_ENDED)
     if not is_readable(said):
         return Outcome(frozenset(), f"NOT READ: the check came to no verdict:\n{made.tail}")
     goals = {goal for function in said.functions for goal in function.goals}
@@ -84,6 +103,9 @@ def alone(edit: Edit, made: Check) -> Outcome:
         file, _, message = other.partition(": ")
         module = re.sub(r"\.(antt|rt)$", "", file).replace("/", "::")
         goals.add(Goal(f"{edit.crate}::{module}", "lemma", bool(NO_LONGER_FITS.search(message))))
+    if changes_definitions(edit) and not all(is_of_a_law(goal) for goal in goals):
+        others = ", ".join(sorted(goal.function for goal in goals if not is_of_a_law(goal)))
+        return Outcome(frozenset(), f"NOT BY A LAW ALONE: {others} has to be proved, too")
     return Outcome(
         frozenset(goals), "" if goals else f"NOT JUDGED: the check names no open goal:\n{made.tail}"
     )
@@ -100,13 +122,14 @@ def lanes() -> int:
 
 
 class Chain:
-    """The rounds of a crate that are still to be tried. Before edits are tried alone, the crate has to be proved as it is: then an open
-    goal is the edit's."""
+    """The rounds of a crate that are still to be tried. Before edits are tried alone, the crate has
+    to be proved as it is: then an open goal is the edit's."""
 
     def __init__(
         self, crate: build.Crate, edits: List[Edit], each_alone: bool, is_proved: bool
     ) -> None:
-        self.crate, self.is_proved = crate, is_proved
+        self.crate = crate
+        self.is_proved = is_proved
         self.places = places_in(crate.home)
         whole = rounds_of(edits, crate.home)
         rounds = [
@@ -148,13 +171,16 @@ class Chain:
         self.is_proved = bool(made.verdict.proved)
         if self.is_proved:
             return {}
-        fault = f"NOT TRIED: the crate is not proved as it is:\n{made.tail}"
-        lost, self.alone = self.alone, []
+        not_tried = f"NOT TRIED: the crate is not proved as it is:\n{made.tail}"
+        fault = NOT_ENDED if made.is_killed else not_tried
+        lost = self.alone
+        self.alone = []
         return {edit: Outcome(frozenset(), fault) for round in lost for edit in round.edits}
 
 
 class Trials:
-    """The trials of the edits of some crates, which may be proved as they are already. Each outcome is kept as soon as it is known."""
+    """The trials of the edits of some crates, which may be proved as they are already. Each outcome
+    is kept as soon as it is known."""
 
     def __init__(
         self,
@@ -164,12 +190,14 @@ class Trials:
         are_proved: bool,
         keep: Callable[[Dict[Edit, Outcome]], None],
     ) -> None:
-        self.crates, self.keep = crates, keep
+        self.crates = crates
+        self.keep = keep
         self.outcomes: Dict[Edit, Outcome] = {}
         self.waiting = [
             Chain(crates[name], some, each_alone, are_proved) for name, some in edits.items()
         ]
-        self.processor, self.checks = 0.0, 0
+        self.processor = 0.0
+        self.checks = 0
         self.running: Set[int] = set()
         self.began = time.monotonic()
 
@@ -183,7 +211,8 @@ class Trials:
         return self.outcomes
 
     def run_in(self, pool: ThreadPoolExecutor) -> None:
-        """Tries all, as many crates at a time as the pool has threads; if they are fewer, each gets several jobs."""
+        """Tries all, as many crates at a time as the pool has threads; if they are fewer, each gets
+        several jobs."""
         running: Dict["Future[Check]", Tuple[Chain, Round]] = {}
         count = lanes()
         while self.waiting or running:
@@ -210,7 +239,8 @@ class Trials:
                 {edit: Outcome(frozenset(), f"STALE: {fault}") for edit in round.edits}
             )
             return
-        self.processor, self.checks = self.processor + made.processor, self.checks + 1
+        self.processor = self.processor + made.processor
+        self.checks = self.checks + 1
         found = chain.settle(round, made)
         self.outcomes.update(found)
         self.keep(found)
@@ -228,7 +258,10 @@ class Trials:
         )
         again = f"; {left} to be tried alone" if left else ""
         print(
-            f"{minutes:3}:{seconds:02}  {chain.crate.name}: {what}, {made.processor:.0f} s of processor time{again}",
+            (
+                f"{minutes:3}:{seconds:02}  {chain.crate.name}: {what}, {made.processor:.0f} s of"
+                f" processor time{again}"
+            ),
             flush=True,
         )
 

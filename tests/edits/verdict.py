@@ -1,14 +1,17 @@
 """What the output of `rt check` says of each function: which of its own goals are open.
 
-A function that only calls one without a proof has no open goal of its own. `rt check` prints, for each function in turn, a note for each
-goal that its search left open, with the place in the source, and then the function's line:
+A function that only calls one without a proof has no open goal of its own. `rt check` prints, for
+each function in turn, a note for each goal that its search left open, with the place in the source,
+and then the function's line:
 
-    note: src/slots.rt:80:5: it is not proved that what the function ensures holds when it returns (`returns`)
-    fn rota_layout::cursor::Cursor::exactly: no proof: expected answers in ..; `search` did not prove `returns`; it calls `..`, which ..
+    note: src/slots.rt:80:5: it is not proved that what the function ensures holds
+        when it returns (`returns`)
+    fn rota_layout::cursor::Cursor::exactly: no proof: expected answers in ..; `search` did
+        not prove `returns`; it calls `..`, which ..
 
-An answer that does not prove its goal has an error line of its own, which names the proof file; that names the function. Functions that
-call one another in a cycle have one folder of proofs, `+NAME`, and each of them has the notes of all; there a goal begins with the name of
-its function.
+An answer that does not prove its goal has an error line of its own, which names the proof file;
+that names the function. Functions that call one another in a cycle have one folder of proofs,
+`+NAME`, and each of them has the notes of all; there a goal begins with the name of its function.
 """
 
 import re
@@ -19,9 +22,11 @@ NOTE = re.compile(r"note: (src/\S+?):(\d+):\d+: .*?\(`([^`]+)`\)")
 ERROR = re.compile(r"(?:note: )?(?:\./)?(\S+?\.(?:rt|antt)):\d+:\d+: error: (.*)")
 GOAL = re.compile(r"`([^`]+)`: (.*)")
 UNPROVED = re.compile(r"did not prove ((?:`[^`]+`(?:, | and )?)+)")
-# The error names what the edit took away, or has its type no longer: the answer was not tried on the goal.
+# The error names what the edit took away, or has its type no longer: the answer was not tried on
+# the goal.
 NO_LONGER_FITS = re.compile(
-    r"expected type|the two types (?:first )?differ|differ only|has no field|is not in scope|has no `|was not admitted|is no name"
+    r"expected type|the two types (?:first )?differ|differ only|has no field|is not in scope|has no"
+    r" `|was not admitted|is no name"
 )
 FOLLOWS = re.compile(r"declarations? that depends? on ")
 CYCLE = re.compile(r"proofs/(.*?)/?\+\w+/")
@@ -33,8 +38,8 @@ COMPILER_ERROR = re.compile(r"^error(\[|:)|\berror\[[\w-]+\]", re.M)
 
 
 class Goal(NamedTuple):
-    """A goal that refused an edit: the function's path, `crate::module::function`, the goal's name, and whether the only reason is an
-    answer that no longer fits."""
+    """A goal that refused an edit: the function's path, `crate::module::function`, the goal's name,
+    and whether the only reason is an answer that no longer fits."""
 
     function: str
     name: str
@@ -42,8 +47,8 @@ class Goal(NamedTuple):
 
 
 class Function(NamedTuple):
-    """A function without a proof: its path, its own open goals, and where they stand in the source; both are empty if it only waits for
-    a function that it calls."""
+    """A function without a proof: its path, its own open goals, and where they stand in the source;
+    both are empty if it only waits for a function that it calls."""
 
     path: str
     goals: FrozenSet[Goal]
@@ -51,8 +56,9 @@ class Function(NamedTuple):
 
 
 class Verdict(NamedTuple):
-    """What a check said: whether the crate is proved, None if it did not come to that; the functions with open goals of their own; and
-    the errors that belong to no function, or are no goal's."""
+    """What a check said: whether the crate is proved, None if it did not come to that; the
+    functions with open goals of their own; and the errors that belong to no function, or are no
+    goal's."""
 
     proved: Optional[bool]
     functions: Tuple[Function, ...]
@@ -60,7 +66,8 @@ class Verdict(NamedTuple):
 
 
 def function_of(path: str) -> str:
-    """The path of the function whose body has the closure of this path; of another function the path itself."""
+    """The path of the function whose body has the closure of this path; of another function the
+    path itself."""
     head, closure, rest = path.partition("::fn::")
     if not closure:
         return path
@@ -102,7 +109,9 @@ class Reader:
 
     def read(self, line: str) -> None:
         """Reads the next line."""
-        note, function, error = NOTE.match(line), FUNCTION_LINE.match(line), ERROR.match(line)
+        note = NOTE.match(line)
+        function = FUNCTION_LINE.match(line)
+        error = ERROR.match(line)
         if note:
             self.notes.append((note[1], int(note[2]), note[3]))
         elif function:
@@ -114,7 +123,8 @@ class Reader:
 
     def read_function(self, path: str, told: str) -> None:
         """Reads a function's line; the notes before it are the function's."""
-        notes, self.notes = self.notes, []
+        notes = self.notes
+        self.notes = []
         # A closure can be `proved where its callers give what it asks`.
         if told.startswith(("proved", "assumed")):
             return
@@ -140,7 +150,8 @@ class Reader:
                     self.lines[name].discard((file, line))
 
     def owner_of(self, file: str, goal: str, folders: Dict[str, str]) -> Optional[str]:
-        """The function of an error in this proof file that names this goal; None if it is of no function without a proof."""
+        """The function of an error in this proof file that names this goal; None if it is of no
+        function without a proof."""
         cycle = CYCLE.match(file)
         crate = next(iter(self.goals), "").partition("::")[0]
         name = in_cycle("::".join([crate, *cycle[1].split("/"), ""]), goal) if cycle else ""

@@ -1,18 +1,22 @@
 #!/usr/bin/env python3
-"""Runs the gate and prints the time of its parts: proofs, tests and edits of each crate, and the scripts. The proofs with which the
-edits of a crate begin are counted with these.
+"""Runs the gate and prints the time of its parts: proofs, tests and edits of each crate, and the
+scripts. The proofs with which the edits of a crate begin are counted with these.
 
 usage: gate.py [--anew] [--processors LIST] [COMMAND..]
 
-  --anew             prove everything from nothing: take no result of an earlier run on this machine (some kits keep none)
+  --anew             prove everything from nothing: take no result of an earlier run on this
+                     machine (some kits keep none)
   --processors LIST  run on these processors only, for example 0,1
-  COMMAND            measure this command in place of .ci/run, for example `tests/edits/main.py --anew opb_text`
+  COMMAND            measure this command in place of .ci/run, for example
+                     `tests/edits/main.py --anew opb_text`
 
-The processor time is sampled: twice a second, each process that the gate started is assigned to the part that its command
-line names. Processes that ended between two samples are in the row `short processes`. The wall time of a part is the time from its
-first process to its last one; parts overlap. A virtual machine may change its speed: a fixed loop, run every ten seconds, tells how
-much of its best speed the machine had on average, and the last line what the gate would have taken at the best. To compare two
-commits, measure both at the same time, in a clone of each and on processors of their own. Needs Linux.
+The processor time is sampled: twice a second, each process that the gate started is assigned to the
+part that its command line names. Processes that ended between two samples are in the row
+`short processes`. The wall time of a part is the time from its first process to its last one; parts
+overlap. A virtual machine may change its speed: a fixed loop, run every ten seconds, tells how much
+of its best speed the machine had on average, and the last line what the gate would have taken at
+the best. To compare two commits, measure both at the same time, in a clone of each and on
+processors of their own. Needs Linux.
 """
 
 import argparse
@@ -32,7 +36,8 @@ LOOP_PERIOD = 10.0
 
 
 class Process(NamedTuple):
-    """A running process: its parent, its own processor time in seconds, and the time of its start."""
+    """A running process: its parent, its own processor time in seconds, and the time of its
+    start."""
 
     parent: int
     seconds: float
@@ -114,7 +119,8 @@ def part_of(
 
 def loop_seconds() -> float:
     """The processor time of a fixed loop."""
-    began, total = time.process_time(), 0
+    began = time.process_time()
+    total = 0
     for number in range(500_000):
         total += number
     return time.process_time() - began
@@ -128,7 +134,8 @@ def measure(command: List[str]) -> Tuple[int, float, Dict[str, Part], List[float
     began = time.monotonic()
     with subprocess.Popen(command) as running:
         while running.poll() is None:
-            table, now = processes(), time.monotonic()
+            table = processes()
+            now = time.monotonic()
             for pid, process in table.items():
                 part = part_of(pid, table, running.pid, known)
                 if part:
@@ -140,7 +147,8 @@ def measure(command: List[str]) -> Tuple[int, float, Dict[str, Part], List[float
 
 
 def from_nothing() -> List[str]:
-    """The word with which `rt ci` takes no result of an earlier run; none if this kit keeps no results."""
+    """The word with which `rt ci` takes no result of an earlier run; none if this kit keeps no
+    results."""
     guide = subprocess.run(
         ["rt", "help"], stdout=subprocess.PIPE, stderr=subprocess.STDOUT, universal_newlines=True
     )
@@ -159,7 +167,8 @@ def report(wall: float, parts: Dict[str, Part], loops: List[float]) -> None:
     print(f"\n{'part':32} {'wall s':>8} {'processor s':>12}")
     kinds: Dict[str, float] = defaultdict(float)
     for name in sorted(parts):
-        kind, part = name.partition(" ")[0], parts[name]
+        kind = name.partition(" ")[0]
+        part = parts[name]
         kinds[kind] += part.total()
         row(name, part.last - part.first, part.total())
     row("short processes", wall, max(0.0, whole - sum(kinds.values())))
@@ -169,7 +178,8 @@ def report(wall: float, parts: Dict[str, Part], loops: List[float]) -> None:
     best = min(loops)
     speed = sum(best / seconds for seconds in loops) / len(loops)
     print(
-        f"\nspeed: {speed:.2f} of the best (a loop of {best:.3f} s), at which the gate would take {wall * speed:.0f} s"
+        f"\nspeed: {speed:.2f} of the best (a loop of {best:.3f} s), at which the gate would take"
+        f" {wall * speed:.0f} s"
     )
 
 

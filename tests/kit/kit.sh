@@ -102,7 +102,7 @@ solution() {
 }
 
 # The soft rules, in their order.
-soft_rules=(S1 S2 S3 S4 S5 S6 S7)
+read -ra soft_rules < <(PYTHONPATH=python python3 -c 'from inrc2pb.week.soft_rules import SOFT_RULES; print(*SOFT_RULES)')
 
 # costs_of [RULE=COST]..: a line for each soft rule with its cost, 0 where none is given; of two the last one counts.
 costs_of() {

@@ -50,14 +50,14 @@ scripts() {
         awk '!seen[$0]++'
 }
 
-# all_scripts [llvm | rattle | PROGRAM]..: each script, with each of these words; for `rattle` without those of pages and
-# Python, whose result does not depend on the compiler.
+# all_scripts [llvm | rattle | PROGRAM]..: each script, with each of these words; for `rattle` without those of pages, Python and the manual,
+# whose result does not depend on the compiler, and without those of tests/random, which run both programs beside each other.
 all_scripts() {
     local file word number=100 row good bad left
     [ $# -gt 0 ] || set -- llvm
     for word; do
         for file in $(scripts); do
-            [ "$word" != rattle ] || [[ $file != @(python/tests|tests/pages)/* ]] || continue
+            [ "$word" != rattle ] || [[ $file != @(python/tests/*|tests/pages/*|tests/random/*|tests/program/manual.sh) ]] || continue
             number=$((number + 1))
             while [ "$(jobs -rp | wc -l)" -ge "$lanes" ]; do wait -n; done
             script "$parts/$number" "$file" "$word" &

@@ -1,17 +1,19 @@
 #!/usr/bin/env python3
-"""Says which edit of crates/*/must-fail/ changes which function, and whether each of them still applies.
+"""Says which edit of crates/*/must-fail/ changes which function, and whether each of them still
+applies.
 
 usage: edits.py [map | many | none | stale] [CRATE..]
 
   map     each function that an edit changes, its promises, and its edits
   many    the same, for functions with two edits or more
-  none    the public functions that no edit changes, without those that need none: the laws, whose bodies call laws or nothing,
-          the drops, which promise nothing, functions that change nothing and have a promise that fixes the result, and
-          functions whose promises are equations
+  none    the public functions that no edit changes, without those that need none: the laws, whose
+          bodies call laws or nothing, the drops, which promise nothing, functions that change
+          nothing and have a promise that fixes the result, and functions whose promises are
+          equations
   stale   the edits whose old text is not in its file exactly once; the word may be left out
 
-A promise is shown by its label, or by its text if it has none; `=` precedes one that fixes the whole result.
-Ends with status 1 if an edit is stale. Nothing is proved: it takes a second.
+A promise is shown by its label, or by its text if it has none; `=` precedes one that fixes the
+whole result. Ends with status 1 if an edit is stale. Nothing is proved: it takes a second.
 """
 
 import glob
@@ -27,24 +29,45 @@ OWNER = re.compile(r"(?:pub |unsafe )*(impl|trait)\b(?:<[^>]*>)? (.*?)\s*(?:\{|w
 PROMISE = re.compile(
     r"(?m)^ +ensures (\w+)? ?\{ ?((?:.(?!\n +(?:ensures|requires) |\n *\{))*.)", re.S
 )
-EXACT = re.compile(r"(let .*? in )?result(\.now)? ≡ [^→]*$")
-EQUATION = re.compile(r"(let .*? in )?((If|On)(Ok|Err) result \((λ \w+\. )?)?[a-z⟦][^→]* ≡ [^→]*$")
+EXACT = re.compile(r"(let .*? in )?result(\.now)? ≡ ")
+# What a promise says of the result of a call or of its content, which gets a name, or of no result.
+EQUATION = re.compile(
+    r"(?:let .*? in )?(?:(?:If|On)(?:Ok|Err) result \((?:λ (\w+)\. )?)?([\w.]+) ≡ ([^→≡]*)$"
+)
 Function = namedtuple("Function", "name first last public law fixed promises clauses")
+
+
+def is_equation(text):
+    """Whether the promise fixes the result, what the call changes, or a part of these, in words that
+    name neither."""
+    found = EQUATION.match(text.rstrip(" }"))
+    if not found:
+        return False
+    content, left, right = found.groups()
+    results = {"result", content or "result"}
+    is_made = left.split(".")[0] in results or ".new" in left
+    return is_made and not results & set(re.findall(r"\w+", right)) and ".new" not in right
+
+
+def is_exact(text):
+    """Whether the promise fixes the whole result."""
+    return is_equation(text) and bool(EXACT.match(text))
 
 
 def promise(label, text):
     """A promise in a few words."""
     text = text.rstrip(" }")
-    exact = "=" if EXACT.match(text) else ""
+    exact = "=" if is_exact(text) else ""
     return exact + (label or re.sub(r"^let .*? in ", "", text)[:60])
 
 
 def fix_all(promises):
-    """Whether the promises leave no choice: nothing changes and one fixes the result, or all are equations."""
+    """Whether the promises leave no choice: nothing changes and one fixes the result, or all are
+    equations."""
     promises = list(promises)
-    if any(EXACT.match(one) for one in promises) and not any(".new" in one for one in promises):
+    if any(is_exact(one) for one in promises) and not any(".new" in one for one in promises):
         return True
-    return promises != [] and all(EQUATION.match(one) for one in promises)
+    return promises != [] and all(is_equation(one) for one in promises)
 
 
 def named(header):
@@ -59,7 +82,8 @@ def without(prefix, text):
 
 
 def body_of(lines, head, indent):
-    """The lines where the body of the function at this line begins and ends: `rt fmt` puts its brace below the `fn`."""
+    """The lines where the body of the function at this line begins and ends: `rt fmt` puts its
+    brace below the `fn`."""
     for begin in range(head, len(lines)):
         rest = without(indent, lines[begin])
         if (
@@ -77,7 +101,9 @@ def body_of(lines, head, indent):
 def functions(path, module, exports, is_open):
     """The functions of a file, in its order."""
     lines = Path(path).read_text(encoding="utf-8").split("\n")
-    owner, shares, found = [], False, []
+    owner = []
+    shares = False
+    found = []
     for start, line in enumerate(lines):
         head = FUNCTION.match(line)
         if re.match(r"[a-z]", line) and not head:
@@ -150,7 +176,10 @@ def surface(crate):
 
 def turned(edit, crate):
     """The places, as file and line, that an edit turns; and why it no longer applies, or None."""
-    path, old, texts, places = None, None, {}, []
+    path = None
+    old = None
+    texts = {}
+    places = []
     for line in Path(edit).read_text(encoding="utf-8").split("\n"):
         if line.startswith("file: "):
             path = f"{crate}/{line[6:].strip()}"
@@ -169,8 +198,10 @@ def turned(edit, crate):
 
 
 def edits_by_function(crate, tables):
-    """The names of the edits that turn each function, known by its file and first line; and what is stale."""
-    edits_of, stale = {}, []
+    """The names of the edits that turn each function, known by its file and first line; and what is
+    stale."""
+    edits_of = {}
+    stale = []
     for edit in sorted(glob.glob(f"{crate}/must-fail/*.edit")):
         name = os.path.splitext(os.path.basename(edit))[0]
         places, fault = turned(edit, crate)
@@ -207,7 +238,8 @@ def main():
     for crate in crates:
         tables = surface(crate)
         edits_of, stale = edits_by_function(crate, tables)
-        count, bad = count + len(glob.glob(f"{crate}/must-fail/*.edit")), bad + len(stale)
+        count = count + len(glob.glob(f"{crate}/must-fail/*.edit"))
+        bad = bad + len(stale)
         for line in stale:
             print(line)
         for path, found in tables.items():

@@ -25,6 +25,10 @@ for library in after("--extern"):
 if Path(os.environ["CALLS"], "waits").exists():
     print(os.getpid(), file=Path(os.environ["CALLS"], "sleepers").open("a"), flush=True)
     time.sleep(60)
+turns = Path(os.environ["CALLS"], "killed")
+if turns.exists() and turns.read_text():
+    turns.write_text(turns.read_text()[1:])
+    os.kill(os.getpid(), 9)
 text, definition = Path("src/lib.rt").read_text(), Path("specs/Words.antt").read_text()
 with Path(os.environ["CALLS"], "checks").open("a") as file:
     print(name, *re.findall(r"wrong (\w+)|same (\w+)", text + definition), len(list(kept.iterdir())), file=file)
@@ -203,6 +207,61 @@ planted_records() {
     writes
 }
 
+# The judge belongs to what a refusal depends on, and when and where its files were written does not.
+another_judge() {
+    find "$ward" -exec touch -d 2001-01-01 {} +
+    mv "$ward" "$room/elsewhere"
+    ward=$room/elsewhere
+    tries 'other times and another folder' 0 '5 passed, 0 failed'
+    tells '0 tried, 5 taken from the record'
+    mv "$ward" "$room/ward"
+    ward=$room/ward
+    echo '# another judge' >> "$ward/tests/edits/verdict.py"
+    tries 'another judge' 0 '5 passed, 0 failed'
+    tells '5 tried, 0 taken from the record'
+    writes
+}
+
+# Records that are written by hand with the checksums of the present sources. Of the two crates one edit each is tried again.
+tried_again() {
+    tries 'recorded edits, tried again' 0 '5 passed, 0 failed' --again=commit
+    tells '2 tried, 3 taken from the record'
+    tells 'the record has base/first_left_out, and it was tried again'
+    # The definition of `upper` is tried alone, after its crate as it is.
+    checks 3
+    ! grep -q 'the record differs' "$room/out" || complain 'another record'
+    for text in one two three four five; do
+        tries 'edits that a text chooses' 0 '5 passed, 0 failed' --again=$text
+        grep 'it was tried again' "$room/out"
+    done > "$room/chosen"
+    [ "$(sort -u "$room/chosen" | grep -c upper)" -gt 1 ] || complain "all texts choose the same: $(cat "$room/chosen")"
+    sed -i 's/ returns$/ returns-clause-price/; s/ lemma$/ other/' "$ward"/crates/*/edits.txt
+    tries 'goals written by hand' 0 '5 passed, 0 failed'
+    tells '0 tried, 5 taken from the record'
+    tries 'goals written by hand, tried again' 1 '3 passed, 2 failed' --again=commit
+    tells 'base/first_left_out: the record has base::lib::first returns-clause-price, and the prover base::lib::first returns'
+    writes
+    sed -i 's/$/ answer/' "$ward/crates/base/edits.txt"
+    tries 'the word answer written by hand' 1 '4 passed, 1 failed' --again=commit
+    tells 'the record has base::lib::first returns answer, and the prover base::lib::first returns'
+    writes
+}
+
+# A check that is ended by a signal says nothing of the record: its edit gets another turn, and then the record is taken.
+ended_checks() {
+    printf %1s '' > "$room/killed"
+    tries 'a check that is ended' 0 '5 passed, 0 failed' --again=commit --built
+    tells '2 tried, 3 taken from the record'
+    printf %4s '' > "$room/killed"
+    tries 'checks that are ended twice' 0 '5 passed, 0 failed' --again=commit --built
+    tells 'NOT ENDED: a signal ended the check twice'
+    tells '0 tried, 5 taken from the record'
+    printf %20s '' > "$room/killed"
+    tries 'checks of new edits that are ended' 1 '0 passed, 5 failed' --anew --built
+    tells 'base/first_left_out: NOT ENDED: a signal ended the check'
+    rm "$room/killed"
+}
+
 # must_fails [NAME WHAT]: `rt must-fail` says that each edit is refused, and of this one something else.
 must_fails() {
     local file name
@@ -278,6 +337,9 @@ first_tries
 over_built_libraries
 planted_edits
 planted_records
+another_judge
+tried_again
+ended_checks
 one_by_one
 stops
 finish

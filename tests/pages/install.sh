@@ -119,7 +119,7 @@ follows_page() {
     awk '/^```sh$/ { inside = 1; next } /^```/ { inside = 0 } inside' "$pages/$1" > "$room/blocks"
     [ -s "$room/blocks" ] || complain 'no block'
     (cd "$room/planner" && env -i HOME="$room" PATH="$installed/bin:/usr/local/bin:/usr/bin:/bin:/usr/games" \
-        timeout 900 bash -eu "$room/blocks") > "$out" 2> "$err" || complain "it ends with $?: $(tail -n 3 "$err")"
+        timeout 1800 bash -eu "$room/blocks") > "$out" 2> "$err" || complain "it ends with $? (124 after half an hour): $(tail -n 3 "$err")"
 }
 
 # The manual pages name every installed command.

@@ -1,9 +1,11 @@
 #!/usr/bin/env python3
-"""The laws of the crates: public calls without parameters and result, whose contracts are statements about definitions.
+"""The laws of the crates: public calls without parameters and result, whose contracts are
+statements about definitions.
 
     tests/pages/laws.py            prints the table of docs/proved.md
     tests/pages/laws.py all        prints every law
-    tests/pages/laws.py compare    compares the table of docs/proved.md with the crates, and fails if they differ
+    tests/pages/laws.py compare    compares the table of docs/proved.md with the crates, and
+                                   fails if they differ
 
 A row has the name of a law and the first sentence of its comment.
 """
@@ -16,13 +18,16 @@ TOP = Path(__file__).resolve().parents[2]
 PAGE = TOP / "docs" / "proved.md"
 HEAD = "| law | statement |\n|---|---|\n"
 
-# The laws of these files are on the page: the meaning of the model, of the rules' charges and of a lower bound. Those that serve
-# others are not: the order and number of terms and variables, and sizes.
+# The laws of these files are on the page: the meaning of the model, of the rules' charges, of a
+# lower bound, and of the program's exit statuses. Those that serve others are not: the order and
+# number of terms and variables, and sizes.
 ON_THE_PAGE = (
     "rota_judge/src/laws/model_laws.rt",
     "rota_judge/src/laws/rule_laws.rt",
     "rota_certificate/src/laws.rt",
     "rota_bound_run/src/laws.rt",
+    "inrc2pb_program/src/laws.rt",
+    "inrc2pb_bound_program/src/laws.rt",
 )
 NOT_ON_THE_PAGE = (
     "extension_fails_first_at_first_broken_rule",
@@ -41,7 +46,7 @@ NOT_ON_THE_PAGE = (
 )
 CRATES_OF_TESTS = ("call_tests", "run_tests", "call_report", "who_fits")
 
-LAW = re.compile(r"((?:^///.*\n)+)(?:^#\[.*\n)*^pub fn (\w+)\(\)\n", re.MULTILINE)
+LAW = re.compile(r"((?:^///.*\n)+)(?:^#\[.*\n)*^pub fn (\w+)(?:<[^()]*>)?\(\)\n", re.MULTILINE)
 
 
 class Law(NamedTuple):
@@ -88,7 +93,8 @@ def main(words: List[str]) -> int:
             return 1
         if on_page not in PAGE.read_text():
             print(
-                f"{PAGE.relative_to(TOP)}: the table of laws is not the one that tests/pages/laws.py prints"
+                f"{PAGE.relative_to(TOP)}: the table of laws is not the one that"
+                " tests/pages/laws.py prints"
             )
             return 1
         print(f"laws.py: {len(every)} laws")

@@ -1,14 +1,20 @@
 #!/usr/bin/env bash
 # Checks the pages: runs each shell block, in the order of its page, in a copy of the repository, and compares its output with
-# the block of text that follows it. Checks the links between the pages, that they answer the questions of their readers, the roster that
-# README.md shows, the table of laws, that the code on a page is in a crate, and that the pages exist which sources and scripts name.
+# the block of `text` that follows it, or its words with those of a `text example`, whose figures depend on the clock. Checks the links
+# between the pages, that they answer the questions of their readers, the costs that README.md shows, the table of laws, that the code on a
+# page is in a crate, and that the pages exist which sources and scripts name.
 #
-#   tests/pages/pages.sh [llvm | rattle | PROGRAM]
+#   tests/pages/pages.sh [llvm | rattle | PROGRAM [PAGE..]]
 #
+# If pages are named, such as docs/words.md, the blocks of the others are not run, and their code is not looked up.
 # Nothing is proved: a stand-in for `rt` gives the program. If clasp is not installed, a stand-in gives its stored answers. Needs
 # bash, the usual tools of a shell, make and Python 3.11.
 . "$(dirname "$0")/../kit/kit.sh"
-needs crates/who_fits/out/who_fits
+every_page=(README.md CONTRIBUTING.md CHANGELOG.md {bench,certified,examples}/README.md docs/*.md)
+pages=("${@:2}")
+[ ${#pages[@]} -gt 0 ] || pages=("${every_page[@]}")
+ls -- "${pages[@]}" > /dev/null || exit 2
+! grep -qF inrc2pb-fits "${pages[@]}" || needs crates/who_fits/out/who_fits
 needs_bound
 . tests/kit/stand_ins.sh
 
@@ -17,11 +23,13 @@ tar -cf - --exclude=./out --exclude='./crates/*/out' --exclude=./.git . | tar -x
 mkdir -p "$room/copy/out" "$room/copy/crates/inrc2pb/out"
 cp "$program" "$room/copy/out/inrc2pb"
 cp "$program" "$room/copy/crates/inrc2pb/out/inrc2pb"
-cp crates/who_fits/out/who_fits "$room/copy/out/inrc2pb-fits"
 cp "$bound" "$room/copy/out/inrc2pb-bound"
 cp "$program" "$room/bin/inrc2pb"
-cp crates/who_fits/out/who_fits "$room/bin/inrc2pb-fits"
 cp "$bound" "$room/bin/inrc2pb-bound"
+if [ -x crates/who_fits/out/who_fits ]; then
+    cp crates/who_fits/out/who_fits "$room/copy/out/inrc2pb-fits"
+    cp crates/who_fits/out/who_fits "$room/bin/inrc2pb-fits"
+fi
 
 # `rt run` has nothing to do in the copy; `rt try` runs each case of a folder, in a folder with the files that it is given.
 stand_in rt << 'END'
@@ -46,10 +54,13 @@ for name in man apt-get; do
 done
 stand_in_for_clasp
 stand_in_for_cbc
-# A search of the planner that a page shows without --time has five seconds here.
+# A search of the planner that a page shows without --time has five seconds here, and the example ward begins on Monday, 30 Nov 2026.
 stand_in inrc2pb-plan << END
 #!/usr/bin/env bash
 case " \$* " in
+    *' new ') PYTHONPATH='$room/work/python' exec python3 -c 'import datetime, pathlib, sys
+from inrc2pb.commands import ward
+print(*ward.new(pathlib.Path(sys.argv[1]), datetime.date(2026, 11, 28)), sep="\n")' "\$1" ;;
     *' --time '*) ;;
     *' plan '* | *' ill '*) set -- "\$@" --time 5 ;;
 esac
@@ -61,11 +72,23 @@ script_of() {
     awk -v room="$room" -v page="$(basename "$1")" '
         /^```/ && kind != "" { if (kind == "sh") last = number; kind = ""; next }
         /^```sh$/ { kind = "sh"; number += 1; print "exec > " room "/" page "." number ".out 2>&1"; next }
-        /^```text$/ { kind = "text"; text = room "/" page "." last ".text"; printf "" > text; next }
+        /^```text( example)?$/ { kind = "text"; text = room "/" page "." last "." ($2 == "" ? "text" : $2); printf "" > text; next }
         /^```/ { kind = "other"; next }
         kind == "sh" { print }
         kind == "text" { print > text }
     ' "$1"
+}
+
+# prints_in_order TEXT OUTPUT: each line of the text is one of the output, in this order. A line `..` stands for more lines, and ` ..` at the
+# end of a line for more words.
+prints_in_order() {
+    awk 'function is_shown(line, shown) { return line == shown || (sub(/ \.\.$/, "", shown) && index(line, shown) == 1) }
+        NR == FNR { if ($0 != "..") shown[++lines] = $0; next } is_shown($0, shown[at + 1]) { at += 1 } END { exit at < lines }' "$1" "$2"
+}
+
+# words_of FILE: its lines without what another plan changes: figures, names and days.
+words_of() {
+    sed -E 's/\b(Amara|Bruno|Chen|Dilek|Ewa|Finn|Grace)\b/NAME/g; s/\b(Mon|Tue|Wed|Thu|Fri|Sat|Sun)\b/DAY/g; s/[0-9]+( to [0-9]+)?/0/g' "$1"
 }
 
 runs_blocks() {
@@ -75,33 +98,41 @@ runs_blocks() {
     checked=$((checked + $(grep -c '^exec > ' "$room/script")))
     rm -rf "$room/work"
     cp -r "$room/copy" "$room/work"
-    (cd "$room/work" && HOME=$room/home PATH=$room/bin:$room/work/python:$PATH LIMIT=20 timeout 600 bash -eu "$room/script" < /dev/null) ||
-        complain "a block ends with $?: $(tail -n 3 "$room/$(basename "$page")".*.out)"
-    for text in "$room/$(basename "$page")".*.text; do
+    (cd "$room/work" && HOME=$room/home PATH=$room/bin:$room/work/python:$PATH LIMIT=20 timeout 1800 bash -eu "$room/script" < /dev/null)
+    case $? in
+        0) ;;
+        124) complain 'it does not end in 1800 s: the machine is slow, or a block waits' ;;
+        *) complain "a block ends with a fault: $(tail -n 3 "$room/$(basename "$page")".*.out)" ;;
+    esac
+    for text in "$room/$(basename "$page")".*.{text,example}; do
         [ -e "$text" ] || continue
-        # Each line of the text is printed, in this order.
-        awk 'NR == FNR { wanted[NR] = $0; lines = NR; next } $0 == wanted[at + 1] { at += 1 } END { exit at < lines }' \
-            "$text" "${text%.text}.out" || complain "not printed as shown: $(cat "${text%.text}.out")"
+        case $text in
+            *.text) prints_in_order "$text" "${text%.*}.out" ;;
+            *) prints_in_order <(words_of "$text" | sort -u) <(words_of "${text%.*}.out" | sort -u) ;;
+        esac || complain "not printed as shown: $(cat "${text%.*}.out")"
     done
 }
 
-# The pages that a page names exist.
+# The pages and headings that these pages name exist.
 links_hold() {
-    local folder link
-    begins_case "the links of $1"
-    folder=$(dirname "$1")
-    while read -r link; do
-        [ -e "$folder/$link" ] || complain "there is no $link"
-    done < <(grep -oE '\]\([^)#]+' "$1" | sed 's/^](//' | grep -v '://')
+    begins_case 'the links of pages'
+    tests/pages/links.py "$@" > "$room/links" || complain "$(cat "$room/links")"
 }
 
-shows_roster() {
-    local five=(--sce ward.txt --his history-0.txt --week week-0.txt) line
-    begins_case 'the roster and its costs in README.md'
-    (cd examples/n005w4 && "$program" decode "${five[@]}" --answer answers/clasp-optimum.txt --sol "$room/roster.txt" > "$room/report")
-    while read -r line; do
-        grep -qF -- "$line" README.md || complain "not shown: $line"
-    done < <(python/inrc2pb-roster show --roster "$room/roster.txt" | sed -n '3,8p')
+# A link to a heading that is not there is named, and so is one to no file.
+dead_links_are_named() {
+    begins_case 'dead links'
+    printf '# When, and *why*?\n# Why\n# Why\n[](#when-and-why) [](#why-1) [](#why-2) [](%s#the-layers) [](%s#none) [](none.md)\n' \
+        "$PWD/docs/layers.md" "$PWD/docs/layers.md" > "$room/planted.md"
+    tests/pages/links.py "$room/planted.md" | sed "s|^$room/planted.md: ||" > "$room/links"
+    printf '%s\n' '#why-2: there is no such heading' "$PWD/docs/layers.md#none: there is no such heading" 'there is no none.md' > "$room/wanted"
+    cmp -s "$room/links" "$room/wanted" || complain "$(cat "$room/links")"
+}
+
+shows_costs() {
+    local five=(--sce ward.txt --his history-0.txt --week week-0.txt) name cost
+    begins_case 'the costs of the roster in README.md'
+    (cd examples/n005w4 && "$program" decode "${five[@]}" --answer answers/clasp-optimum.txt --sol /dev/null > "$room/report")
     while read -r name cost; do
         case $name in
             S?) grep -q "^| $name |.* $cost |$" README.md || complain "another cost of $name than $cost" ;;
@@ -138,18 +169,19 @@ named_pages_exist() {
     while read -r page; do
         [ -e "$page" ] || complain "there is no $page, which is named in $(grep -rlF "$page" crates/*/src tests | head -n 3)"
     done < <(grep -rhoE --include='*.rt' --include='*.sh' --include='*.py' \
-        '\b(docs|bench)/[A-Za-z_]+\.md|\b(README|CONTRIBUTING|CHANGELOG)\.md' crates/*/src tests | sort -u)
+        '\b(docs|bench|certified)/[A-Za-z_]+\.md|\b(README|CONTRIBUTING|CHANGELOG)\.md' crates/*/src tests | sort -u)
 }
 
-for page in README.md CONTRIBUTING.md CHANGELOG.md bench/README.md examples/README.md docs/*.md; do
+for page in "${pages[@]}"; do
     runs_blocks "$page"
-    links_hold "$page"
     quotes_code "$page"
 done
+links_hold "${every_page[@]}"
+dead_links_are_named
 named_pages_exist
 begins_case 'the questions in tests/pages/questions.txt'
 python3 tests/pages/questions.py > "$room/questions" || complain "$(cat "$room/questions")"
 begins_case 'the laws in docs/proved.md'
 python3 tests/pages/laws.py compare > "$room/laws" || complain "$(cat "$room/laws")"
-shows_roster
+shows_costs
 finish

@@ -1,12 +1,15 @@
 #!/usr/bin/env python3
 """The questions of readers in tests/pages/questions.txt: each page answers its own.
 
-    tests/pages/questions.py           fails if a question has no answer, or a page has too few questions
-    tests/pages/questions.py PAGE      prints the questions of this page, for a reader who tries to answer them from it
+    tests/pages/questions.py           fails if a question has no answer, or a page has
+                                             too few questions
+    tests/pages/questions.py PAGE      prints the questions of this page, for a reader
+                                             who tries to answer them from it
 
-A line without a bar names a page. Each line below it has a question, the heading of the section that answers it, and words of that
-section, with semicolons between. A section is the text from its heading to the next one. A page that is changed gets the question that
-the change answers, and a sentence that answers no question may go.
+A line without a bar names a page. Each line below it has a question, the heading of the section
+that answers it, and words of that section, with semicolons between. A section is the text from its
+heading to the next one. A page that is changed gets the question that the change answers, and a
+sentence that answers no question may go.
 """
 import re
 import sys
@@ -37,7 +40,8 @@ class Question(NamedTuple):
 
 def questions_of(text: str) -> List[Question]:
     """The questions of the list, in their order."""
-    questions, page = [], ""
+    questions = []
+    page = ""
     for line in text.splitlines():
         if not line.strip() or line.startswith("#"):
             continue
@@ -52,9 +56,11 @@ def questions_of(text: str) -> List[Question]:
 
 
 def sections_of(page: str) -> Dict[str, str]:
-    """The text of each section of a page by its heading, with one blank for each break of a line. Headings in blocks are text."""
+    """The text of each section of a page by its heading, with one blank for each break of a line.
+    Headings in blocks are text."""
     sections: Dict[str, str] = {}
-    heading, is_block = "", False
+    heading = ""
+    is_block = False
     for line in page.splitlines():
         is_block ^= line.startswith("```")
         found = None if is_block else re.match(r"#+ (.*)", line)

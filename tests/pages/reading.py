@@ -1,16 +1,22 @@
 #!/usr/bin/env python3
-"""Compares the lists of docs/reading.md with the definitions that the contracts of the runs rest on.
+"""Compares the lists of docs/reading.md with the definitions that the contracts of the runs rest
+on.
 
 usage: reading.py [--fix]
 
-A contract cites definitions, and these rest on others: a list has the files that are reached through the imports of
-specs/. The first list begins with the meaning of a model and the text of one, each other list with the definitions that
-its contracts cite. A file is in one list only, and comes after the files that it rests on. No other file defines a name
-of the lists. Each definition has a comment above it.
+A contract cites definitions, and these rest on others: a list has the files that are reached
+through the imports of specs/. The first list begins with the meaning of a model and the text of
+one, each other list with the definitions that its contracts cite. A file is in one list only, and
+comes after the files that it rests on. No other file defines a name of the lists. Each definition
+has a comment above it.
 
-The page gives the lines of each file; for each list its files, their lines, and the lines of definitions (without
-imports, comments and blank lines); and the number of public definitions in the first two lists. After a change of
-specs/, --fix writes these numbers. Rows are added, moved and removed by hand, as the complaints say.
+For two statements the page says which files of the other lists they rest on, by the names in their
+definitions (reach.py), for readers who want no more than these statements.
+
+The page gives the lines of each file; for each list its files, their lines, and the lines of
+definitions (without imports, comments and blank lines); and the number of public definitions in the
+first two lists. After a change of specs/, --fix writes these numbers, and the tables of the files
+that a statement rests on. Rows of files are added, moved and removed by hand, as the complaints say.
 """
 
 import argparse
@@ -19,6 +25,9 @@ import sys
 from pathlib import Path
 from typing import Dict, Iterable, Iterator, List, Match, NamedTuple, Set, Tuple
 
+sys.path.insert(0, str(Path(__file__).resolve().parent))
+import reach  # noqa: E402
+
 ROOT = Path(__file__).resolve().parents[2]
 CRATES = ROOT / "crates"
 PAGE = ROOT / "docs" / "reading.md"
@@ -26,7 +35,7 @@ EXACT = CRATES / "rota_pb/specs/ExactModel.antt"
 ENCODE = ("rota_pb/src/encoding.rt", "run_encode")
 DECODE = ("rota_pb/src/decoding.rt", "run_decode")
 EXTEND = ("rota_pb/src/extending.rt", "run_extend")
-PERFORM = ("inrc2pb_job/src/job_run.rt", "perform")
+PERFORM = ("inrc2pb_program/src/job_run.rt", "perform")
 PROGRAM = ("inrc2pb_program/src/run.rt", "program")
 EXACT_ANSWERS = CRATES / "rota_bound_run/specs/ExactAnswers.antt"
 BOUND = ("rota_bound_run/src/run.rt", "run_bound")
@@ -35,7 +44,8 @@ BOUND_PROGRAM = ("inrc2pb_bound_program/src/run.rt", "program")
 
 
 class FileList(NamedTuple):
-    """A list of the page: words of its heading, the files and the calls that it begins with, and where it stops."""
+    """A list of the page: words of its heading, the files and the calls that it begins with, and
+    where it stops."""
 
     heading: str
     files: List[str]
@@ -58,15 +68,25 @@ LISTS = [
     FileList("A proved bound", [], [BOUND, BOUND_PERFORM, BOUND_PROGRAM], {EXACT_ANSWERS}),
     FileList("The exact bound", [], [BOUND], set()),
 ]
+# Below the heading of a list: the statement for which the page says what else it rests on.
+RESTING = {
+    "What a bound means": ("rota_bound_run/specs/Claims.antt", "IsTrue"),
+    "A proved bound": (
+        "inrc2pb_bound_program/specs/BoundPrograms.antt",
+        "BoundProgramOutcome",
+    ),
+}
 # Names that two files of the lists define: these and no more.
 NAMES_OF_TWO = {"EndsInTurn", "check", "◌>>=◌"}
 USE = re.compile(
-    r"(?m)^ *(?:pub )?(?:ghost )?use Rattle\.(\w+)\.specs\.([\w.]+?)(?:\.\{([^}]*)\})?(?: as \w+)?;?$"
+    r"(?m)^ *(?:pub )?(?:ghost )?use Rattle\.(\w+)\.specs\.([\w.]+?)(?:\.\{([^}]*)\})?(?: as"
+    r" \w+)?;?$"
 )
 ROW = re.compile(r"(?m)^- `([\w/]+\.antt)` \((\d+)\):")
 FIRST_LISTS = 2
 DEFINED = re.compile(r"(The\s+first\s+two\s+lists\s+have\s+)(\d+)(\s+public\s+definitions)")
 TOTAL = re.compile(r"(\d+) files, ([\d,]+) lines, ([\d,]+) of definitions")
+RESTS = re.compile(r"\| of the list \| read \|\n(?:\|.*\n)*\n.*$", re.M)
 NO_DEFINITION = re.compile(r" *(--|(pub )?use |$)")
 DEFINITION = re.compile(r"(?:abbrev |unfoldable )?pub (?!use )(?:record |data )?(\S+)")
 NAME = re.compile(
@@ -93,7 +113,8 @@ def cited(source: str, call: str) -> List[Path]:
 
 
 def reached(files: Iterable[Path], stops: Set[Path]) -> List[Path]:
-    """The files that are reached from these, with these, but none that is reached only through a stop."""
+    """The files that are reached from these, with these, but none that is reached only through a
+    stop."""
     found: List[Path] = []
     todo = list(files)
     while todo:
@@ -163,6 +184,47 @@ def compare(page: str, heading: str, wanted: List[Path], before: List[Path]) -> 
         yield f"the list '{heading}' has {total(wanted)}"
 
 
+def named(files: List[Path], among: List[Path]) -> str:
+    """The files by their names, with their crates where another one of these has the same name."""
+    others = {file.stem for file in among if file not in files}
+    names = (name(file) if file.stem in others else file.stem for file in files)
+    return ", ".join(f"`{one}`" for one in sorted(set(names)))
+
+
+def files_read(wanted: List[Path], files: Set[Path]) -> str:
+    """Which files of a list are among these, in a few words."""
+    read = [file for file in wanted if file in files]
+    unread = [file for file in wanted if file not in files]
+    if len(unread) < len(read):
+        return f"all but {named(unread, wanted)}" if unread else "all"
+    return named(read, wanted)
+
+
+def rests(heading: str) -> str:
+    """The table of the files of other lists on which the statement of this list rests, and the
+    counts of all of them."""
+    source, definition = RESTING[heading]
+    files = reach.reached([(CRATES / source, definition)])
+    rows = [
+        f"| {other} | {files_read(wanted, files)} |\n"
+        for other, wanted, _ in lists()
+        if other != heading and files & set(wanted)
+    ]
+    lines = sum(length(file) for file in files)
+    return (
+        f"| of the list | read |\n|---|---|\n{''.join(rows)}\n"
+        f"With the files of this list these are {len(files)} files, {lines:,} lines."
+    )
+
+
+def compare_rests(page: str) -> Iterator[str]:
+    """The faults of the tables of the files that a statement rests on."""
+    for heading in RESTING:
+        first, last = section(page, heading)
+        if rests(heading) not in page[first:last]:
+            yield f"the list '{heading}' rests on other files, as --fix writes them"
+
+
 def uncommented(file: Path) -> Iterator[str]:
     """The public definitions of a file that have no comment above them."""
     before = ""
@@ -175,7 +237,8 @@ def uncommented(file: Path) -> Iterator[str]:
 
 
 def defined_twice(files: Iterable[Path]) -> Iterator[str]:
-    """The names of these files that another file of specs/ defines too. `rota_certificate` shares some names with other crates."""
+    """The names of these files that another file of specs/ defines too. `rota_certificate` shares
+    some names with other crates."""
     owners: Dict[str, List[Path]] = {}
     for file in sorted(
         set(CRATES.glob("*/specs/**/*.antt")) - set(CRATES.glob("rota_certificate/specs/**/*.antt"))
@@ -209,7 +272,8 @@ def fixed(page: str, heading: str, wanted: List[Path]) -> str:
 
 
 def lists() -> Iterator[Tuple[str, List[Path], List[Path]]]:
-    """Each list of the page: the words of its heading, its files, and those of the lists before it."""
+    """Each list of the page: the words of its heading, its files, and those of the lists before
+    it."""
     before: List[Path] = []
     for one in LISTS:
         starts = [CRATES / file for file in one.files] + [
@@ -221,7 +285,8 @@ def lists() -> Iterator[Tuple[str, List[Path], List[Path]]]:
 
 
 def main() -> int:
-    """Compares, or with --fix writes the counts and then compares; the exit status is 1 if something is wrong."""
+    """Compares, or with --fix writes the counts and then compares; the exit status is 1 if
+    something is wrong."""
     parser = argparse.ArgumentParser(description=(__doc__ or "").split("\n")[0])
     parser.add_argument("--fix", action="store_true", help="write the numbers on the page")
     fix = parser.parse_args().fix
@@ -231,9 +296,13 @@ def main() -> int:
     if fix:
         for heading, wanted, _ in all_lists:
             page = fixed(page, heading, wanted)
+        for heading in RESTING:
+            first, last = section(page, heading)
+            text = RESTS.sub(rests(heading), page[first:last], count=1)
+            page = page[:first] + text + page[last:]
         page = DEFINED.sub(rf"\g<1>{defined(first_files)}\g<3>", page)
         PAGE.write_text(page, encoding="utf-8")
-    wrong = list(compare_defined(page, first_files))
+    wrong = [*compare_defined(page, first_files), *compare_rests(page)]
     for heading, wanted, before in all_lists:
         wrong += compare(page, heading, wanted, before)
         wrong += [line for file in wanted for line in uncommented(file)]

@@ -1,14 +1,17 @@
 #!/usr/bin/env python3
-"""Says which edits of crates/*/must-fail/ are refused only by answers that no longer fit, and compares them with a list.
+"""Says which edits of crates/*/must-fail/ are refused only by answers that no longer fit, and
+compares them with a list.
 
 usage: refused_by_answers.py [list | check]
 
   list   these edits, each with the goals of those answers
   check  compares them with tests/pages/refused_by_answers.txt; the word may be left out
 
-Such a refusal shows that this proof no longer fits the edited body, and not that there is none. So each of these edits has a line in the
-list, which says at which values a goal of it is false. The goals are those of the record, crates/*/edits.txt. Nothing is proved: it takes a
-second. Ends with status 1 if an edit is not listed, or a listed one is refused at a goal for which a proof was searched, or is gone.
+Such a refusal shows that this proof no longer fits the edited body, and not that there is none. So
+each of these edits has a line in the list, which says at which values a goal of it is false. The
+goals are those of the record, crates/*/edits.txt. Nothing is proved: it takes a second. Ends with
+status 1 if an edit is not listed, or a listed one is refused at a goal for which a proof was
+searched, or is gone.
 """
 
 import sys
@@ -34,7 +37,8 @@ def refused_by_answers() -> Dict[str, Set[str]]:
 
 
 def listed() -> Dict[str, str]:
-    """The edits of the list, as crate and name, each with the goal that its line names. A line without values counts as none."""
+    """The edits of the list, as crate and name, each with the goal that its line names. A line
+    without values counts as none."""
     lines = [
         line
         for line in LIST.read_text(encoding="utf-8").splitlines()
@@ -52,12 +56,21 @@ def differences(found: Dict[str, Set[str]], known: Dict[str, str]) -> Iterator[s
     """What the list and the records do not agree on."""
     for edit, goal in known.items():
         if edit not in found:
-            yield f"{edit}: the list has it, and it is refused at a goal for which a proof was searched, or is gone"
+            yield (
+                f"{edit}: the list has it, and it is refused at a goal for which a proof was"
+                " searched, or is gone"
+            )
         elif goal not in found[edit]:
-            yield f"{edit}: the list names the goal {goal or 'nothing'}, and the record {', '.join(sorted(found[edit]))}"
+            yield (
+                f"{edit}: the list names the goal {goal or 'nothing'}, and the record"
+                f" {', '.join(sorted(found[edit]))}"
+            )
     for edit, goals in found.items():
         if edit not in known:
-            yield f"{edit}: only answers refuse it, at {', '.join(sorted(goals))}: find another body, or write a line with values"
+            yield (
+                f"{edit}: only answers refuse it, at {', '.join(sorted(goals))}: find another body,"
+                " or write a line with values"
+            )
 
 
 def main(words: List[str]) -> int:

@@ -113,6 +113,21 @@ completes_commands() {
     is 'a file, which bash completes' "$(offered python/inrc2pb-roster show ward.txt '')" ' '
 }
 
+# offered_by_zsh WORD..: what the completion of the Python commands offers in zsh for the last of these; `files` are file names.
+offered_by_zsh() {
+    zsh -fc 'compadd() { print -l -- ${(P)2} }; _files() { print files }; words=("$@"); CURRENT=$#; . completions/_inrc2pb-commands' zsh "$@"
+}
+
+# offered_by_fish WORD..: the same in fish.
+offered_by_fish() { fish -c "source completions/inrc2pb-commands.fish; complete -C '$*'" | cut -f 1; }
+
+# offers SHELL: the verbs of the Python commands, and the options of a verb, are completed in this shell as in bash.
+offers() {
+    is "verbs in $1" "$("offered_by_$1" python/inrc2pb-roster '' | sort | tr '\n' ' ')" "$(offered python/inrc2pb-roster '')"
+    is "verbs after a folder in $1" "$("offered_by_$1" python/inrc2pb-plan ward '' | sort | tr '\n' ' ')" "$(offered python/inrc2pb-plan ward '')"
+    is "options of a verb in $1" "$("offered_by_$1" python/inrc2pb-roster next -- | sort | tr '\n' ' ')" "$(offered python/inrc2pb-roster next --)"
+}
+
 # The completions are as completions/write.py writes them, and their shells read them.
 completions_are_written() {
     local file offered
@@ -121,13 +136,15 @@ completions_are_written() {
     for file in inrc2pb{,-bound,-commands}.{bash,fish} _inrc2pb{,-bound,-commands}; do
         cmp -s "$room/$file" "completions/$file" || complain "$file is not as write.py writes it"
     done
-    if has zsh; then
+    if has zsh 4; then
         begins_case 'the completions in zsh'
         for file in completions/_*; do
             zsh -n "$file" || complain "zsh does not read $file"
         done
+        offers zsh
     fi
-    if has fish 3; then
+    if has fish 6; then
+        offers fish
         for file in encode decode extend; do
             offered=$(fish -c "source completions/inrc2pb.fish; complete -C 'inrc2pb $file --'" | cut -f 1 | sort | tr '\n' ' ')
             is "fish's completion of $file" "$offered" "$(complete_words inrc2pb $file --)"

@@ -1,11 +1,13 @@
 #!/usr/bin/env python3
-"""Finds the ends of the texts of crates/run_tests/src/changed_tokens.rt with the readers of python/inrc2pb.
+"""Finds the ends of the texts of crates/run_tests/src/changed_tokens.rt with the readers of
+python/inrc2pb.
 
 usage: changed_tokens.py [--fix]
 
-The test replaces, precedes or cuts off each token of six files by each of its words, and counts the faults by their kind. This
-script makes the same texts from the constants of that file, and compares its own counts with the numbers there. With --fix it
-writes them. The Python programs read no certificates, and facts of one nurse only, so this script has a reader of both.
+The test replaces, precedes or cuts off each token of six files by each of its words, and counts the
+faults by their kind. This script makes the same texts from the constants of that file, and compares
+its own counts with the numbers there. With --fix it writes them. The Python programs read no
+certificates, and facts of one nurse only, so this script has a reader of both.
 """
 
 import re
@@ -75,7 +77,8 @@ def read_fact(slots: Slots, ward: files.Scenario) -> None:
 
 
 def read_tree(slots: Slots, ward: files.Scenario, leaves: int, prices: int) -> None:
-    """Reads a tree with this number of leaves: how many leaves each open subtree needs is not known before, only their sum."""
+    """Reads a tree with this number of leaves: how many leaves each open subtree needs is not known
+    before, only their sum."""
     subtrees = 1
     while subtrees:
         words = ["SPLIT"] * (leaves > subtrees) + ["LEAF"] * (subtrees > 1 or leaves == 1)
@@ -87,7 +90,8 @@ def read_tree(slots: Slots, ward: files.Scenario, leaves: int, prices: int) -> N
             slots.words("SURCHARGES", "=")
             for _ in range(slots.number("the number of surcharges")):
                 slots.number("a surcharge", 0, MAX_PRICE)
-            subtrees, leaves = subtrees - 1, leaves - 1
+            subtrees = subtrees - 1
+            leaves = leaves - 1
 
 
 def read_certificate(path: str, ward: files.Scenario, text: str) -> None:
@@ -131,7 +135,8 @@ def texts(text: str, words: List[str]) -> List[str]:
 
 
 def ends(read: Callable[[str], object], changed: List[str]) -> List[int]:
-    """How many of the texts have no fault and a fault of each kind, and the sum of the faults' lines."""
+    """How many of the texts have no fault and a fault of each kind, and the sum of the faults'
+    lines."""
     found = [0] * (len(KINDS) + 2)
     for text in changed:
         try:

@@ -1,7 +1,8 @@
-"""Drafts of weeks, which tests make at random and change, and the library's values and rules of them.
+"""Drafts of weeks, which tests make at random and change, and the library's values and rules of
+them.
 
-A draft has the names of its scenario, history and week as dictionaries that may change; a cell is a tuple (nurse, day,
-shift type, skill). The library is python/inrc2pb.
+A draft has the names of its scenario, history and week as dictionaries that may change; a cell is a
+tuple (nurse, day, shift type, skill). The library is python/inrc2pb.
 """
 
 import os
@@ -14,7 +15,9 @@ sys.path.insert(0, f"{ROOT}/python")
 from inrc2pb.judging import rules  # noqa: E402
 from inrc2pb.week import faults, files, records, soft_rules  # noqa: E402
 
-DAYS, SOFT_RULES, FileFault = list(records.DAYS), soft_rules.SOFT_RULES, faults.FileFault
+DAYS = list(records.DAYS)
+SOFT_RULES = soft_rules.SOFT_RULES
+FileFault = faults.FileFault
 
 
 def week_of(draft):
@@ -71,7 +74,8 @@ def week_of(draft):
 
 def draft_of(week):
     """The draft of a week."""
-    ward, data = week.scenario, week.data
+    ward = week.scenario
+    data = week.data
     return SimpleNamespace(
         name=ward.name,
         weeks=ward.weeks,

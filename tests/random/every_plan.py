@@ -1,16 +1,17 @@
 #!/usr/bin/env python3
-"""Compares `inrc2pb-bound` on tiny periods of one to three weeks with all plans, under certificates and facts of all kinds.
+"""Compares `inrc2pb-bound` on tiny periods of one to three weeks with all plans, under certificates
+and facts of all kinds.
 
 usage: every_plan.py PROGRAM [--periods N] [--seed N]
 
-The plans and the bounds are those of plain_plans.py and plain_bounds.py. The program's bound is that of the certificate, and no plan that
-keeps the hard rules and the given facts costs less; none exists if the program says so. It gives the penalties of some plans, `optimal` if
-such a plan has the bound, and the first rule or fact that others break. It refuses a certificate with a fact twice on a path. A period that
-fails is made smaller and kept in fuzz-failures/.
+The plans and the bounds are those of plain_plans.py and plain_bounds.py. The program's bound is
+that of the certificate, and no plan that keeps the hard rules and the given facts costs less; none
+exists if the program says so. It gives the penalties of some plans, `optimal` if such a plan has
+the bound, and the first rule or fact that others break. It refuses a certificate with a fact twice
+on a path. A period that fails is made smaller and kept in fuzz-failures/.
 """
 
 import itertools
-import os
 import random
 import shutil
 import subprocess
@@ -32,7 +33,7 @@ from periods import (
 from plain_bounds import NONE, Certificate, lower_bound, minimums_bound
 from plain_plans import Chain, Period, Plan
 from random_weeks import any_cell
-from runs import Wrong
+from runs import Wrong, builds, same_by_all
 from trials import run_trials
 
 MOST_PLANS = 3000
@@ -51,7 +52,8 @@ class Case(NamedTuple):
 
 
 class Plans(NamedTuple):
-    """The plans of a period that are not refused, with their costs, others that are, and whether these are all."""
+    """The plans of a period that are not refused, with their costs, others that are, and whether
+    these are all."""
 
     kept: List[Tuple[int, Plan]]
     broken: List[Plan]
@@ -59,20 +61,18 @@ class Plans(NamedTuple):
 
 
 def refusal(period: Period, plan: Plan) -> Optional[Tuple[int, str]]:
-    """The status and the fault with which the program refuses a plan: that of the first week with one, or of the first fact it breaks."""
-    rule, beyond, fact = (
-        plain_plans.first_broken(period, plan),
-        plain_plans.first_beyond(plan),
-        plain_plans.first_unmet(period, plan),
-    )
+    """The status and the fault with which the program refuses a plan: that of the first week with
+    one, or of the first fact it breaks."""
+    rule = plain_plans.first_broken(period, plan)
+    beyond = plain_plans.first_beyond(plan)
+    fact = plain_plans.first_unmet(period, plan)
     if beyond is not None and (rule is None or beyond <= rule[0]):
         return 1, f"week {beyond + 1}: history: out of limits"
     if rule:
-        return (
-            6,
+        return 6, (
             f"week {rule[0] + 1}: roster breaks {rule[1]}"
             if len(period.weeks) > 1
-            else f"roster breaks {rule[1]}",
+            else f"roster breaks {rule[1]}"
         )
     return None if fact is None else (6, f"facts line {fact + 5}: not met")
 
@@ -99,7 +99,9 @@ class Runs:
     """A folder with the files of a period, and runs of the program there."""
 
     def __init__(self, program: str, folder: str, case: Case) -> None:
-        self.program, self.folder, self.period = os.path.abspath(program), Path(folder), case.period
+        self.programs = builds(program)
+        self.folder = Path(folder)
+        self.period = case.period
         files = period_files(*case)
         for name, text in files.items():
             (self.folder / name).write_text(text)
@@ -124,9 +126,13 @@ class Runs:
         )
 
     def run(self, *words: str) -> Tuple[int, str, str]:
-        """The status, standard output and standard error of a run."""
+        """The status, standard output and standard error of a run, in each build."""
+        return same_by_all(self.programs, lambda program: self.run_of(program, *words))
+
+    def run_of(self, program: str, *words: str) -> Tuple[int, str, str]:
+        """The status, standard output and standard error of a build."""
         ended = subprocess.run(
-            [self.program, *self.words, *words],
+            [program, *self.words, *words],
             cwd=self.folder,
             capture_output=True,
             text=True,
@@ -172,15 +178,15 @@ def check_repeated_fact(runs: Runs, case: Case, chance: random.Random) -> None:
 
 
 def check(program: str, folder: str, case: Case) -> Tuple[bool, ...]:
-    """What was tried: whether there are several weeks, several leaves, given facts of other kinds than choices, a bound above 0, an optimal
-    plan, no plan at all, a proof of that, a plan that breaks a rule, one that breaks a fact."""
+    """What was tried: whether there are several weeks, several leaves, given facts of other kinds
+    than choices, a bound above 0, an optimal plan, no plan at all, a proof of that, a plan that
+    breaks a rule, one that breaks a fact."""
     period, certificate = case
     runs = Runs(program, folder, case)
     every = {nurse: list(plain_plans.chains(period, nurse)) for nurse in period.nurses}
     plans = plans_of(period, random.Random("plans"), every)
-    bound, minimums = lower_bound(period, certificate, every), minimums_bound(
-        period, certificate, every
-    )
+    bound = lower_bound(period, certificate, every)
+    minimums = minimums_bound(period, certificate, every)
     cheapest = min((cost for cost, _ in plans.kept), default=NONE)
     if cheapest < bound or plans.kept and minimums > 0:
         raise Wrong(
@@ -201,10 +207,12 @@ def check(program: str, folder: str, case: Case) -> Tuple[bool, ...]:
     for cost, plan in plans.kept[:1] + plans.kept[-1:]:
         text = f"lower bound {bound}\npenalty {cost}\n" + "optimal\n" * (cost == bound)
         runs.expect("rosters", (0, text, ""), *runs.judge(plan.rosters(len(period.weeks))))
-    rules, facts = int(check_first_roster(runs, random.Random("cells"))), 0
+    rules = int(check_first_roster(runs, random.Random("cells")))
+    facts = 0
     for plan in plans.broken[:3]:
         status, told = refusal(period, plan) or (0, "")
-        rules, facts = rules + ("breaks" in told), facts + ("fact" in told)
+        rules = rules + ("breaks" in told)
+        facts = facts + ("fact" in told)
         runs.expect(
             "broken",
             (status, "", f"inrc2pb-bound: {told}\n"),
@@ -229,7 +237,8 @@ def check(program: str, folder: str, case: Case) -> Tuple[bool, ...]:
 
 
 def subtrees(tree: tuple) -> Iterator[tuple]:  # type: ignore[type-arg]
-    """Smaller trees: one of the two parts of a node in its place, or a leaf without its last surcharge."""
+    """Smaller trees: one of the two parts of a node in its place, or a leaf without its last
+    surcharge."""
     if tree[0] == "LEAF":
         if tree[2]:
             yield (*tree[:2], tree[2][:-1])
@@ -295,7 +304,8 @@ def wrong_of(program: str, case: Case) -> Optional[Wrong]:
 
 
 def keep(program: str, case: Case, name: str) -> str:
-    """Makes a case that fails smaller, and keeps its files; what is wrong with it, and where they are."""
+    """Makes a case that fails smaller, and keeps its files; what is wrong with it, and where they
+    are."""
     kind = getattr(wrong_of(program, case), "kind", "")
     small = shrunk(case, lambda one: getattr(wrong_of(program, one), "kind", None) == kind)
     folder = Path(ROOT) / "fuzz-failures" / name

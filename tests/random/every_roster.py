@@ -1,15 +1,17 @@
 #!/usr/bin/env python3
-"""Compares the models of `encode` for small weeks, and answers to them, with python/inrc2pb/judging/rules.py, for every roster.
+"""Compares the models of `encode` for small weeks, and answers to them, with
+python/inrc2pb/judging/rules.py, for every roster.
 
 usage: every_roster.py PROGRAM [--weeks N] [--seed N]
 
-For each set of cells, the constraints can be satisfied exactly if the roster keeps the hard rules, and the minimum
-objective is then its penalty. So the minimum of all penalties is the optimum, or there is none; if clasp is installed,
-it has to prove the same. Each slack must be in one constraint only, with the coefficient 1 and a price of at least 0, so
-that the minimum objective for some cells is a sum over the constraints of their cheapest slacks.
+For each set of cells, the constraints can be satisfied exactly if the roster keeps the hard rules,
+and the minimum objective is then its penalty. So the minimum of all penalties is the optimum, or
+there is none; if clasp is installed, it has to prove the same. Each slack must be in one constraint
+only, with the coefficient 1 and a price of at least 0, so that the minimum objective for some cells
+is a sum over the constraints of their cheapest slacks.
 
-For answers with any slacks `decode` has to name the first constraint that is not satisfied, or to report the answer's
-objective and the roster's costs.
+For answers with any slacks `decode` has to name the first constraint that is not satisfied, or to
+report the answer's objective and the roster's costs.
 """
 
 import random
@@ -33,8 +35,9 @@ HAS_CLASP = shutil.which("clasp") is not None
 
 
 class Model:
-    """An OPB text: the price of each variable, and the constraints as their terms and degrees. For the search each of these
-    is also kept as masks over the cells, the degree, and the prices of its slacks."""
+    """An OPB text: the price of each variable, and the constraints as their terms and degrees. For
+    the search each of these is also kept as masks over the cells, the degree, and the prices of its
+    slacks."""
 
     def __init__(self, text, cells):
         first, *lines = text.split("\n")[:-1]
@@ -123,9 +126,8 @@ def small_case(chance, number):
     week = None
     while week is None or (len(week.nurses), len(week.shifts), len(week.skills)) != size:
         week, _ = random_week(chance, *size)
-    case, held = files_of(week), chance.choice(
-        [[], legal_roster(chance, week)[:2], [any_cell(chance, week)]]
-    )
+    case = files_of(week)
+    held = chance.choice([[], legal_roster(chance, week)[:2], [any_cell(chance, week)]])
     if held or chance.random() < 0.5:
         case["fix"] = solution_text(week, held)
     if chance.random() < 0.4:
@@ -140,7 +142,8 @@ def check_answer(runs, model, week, case, true):
         for variable in range(1, model.variables + 1)
     ]
     runs.put(dict(case, answer=f"s SATISFIABLE\nv {' '.join(literals)}\n"))
-    ended, unmet = runs.decode(), model.first_unmet(true)
+    ended = runs.decode()
+    unmet = model.first_unmet(true)
     if unmet:
         wanted = (6, "", f"inrc2pb: constraint {unmet} is not satisfied\n", None)
     else:
@@ -168,8 +171,12 @@ def random_answer(chance, model, cells, kept):
 
 
 def penalties(model, week, held, early):
-    """The penalty of each set of cells that keeps the hard rules, as it is compared with the least objective of all sets."""
-    cells, value, held_rows, found = rows(cells_of(week)), week_of(week), rows(held), {}
+    """The penalty of each set of cells that keeps the hard rules, as it is compared with the least
+    objective of all sets."""
+    cells = rows(cells_of(week))
+    value = week_of(week)
+    held_rows = rows(held)
+    found = {}
     for bits in range(1 << len(cells)):
         roster = [cell for index, cell in enumerate(cells) if bits >> index & 1]
         broken = rules.first_broken(value, roster, held_rows)
@@ -182,8 +189,8 @@ def penalties(model, week, held, early):
 
 
 def try_week(runs, chance, week, held, case):
-    """What was tried: sets of cells, those of them that keep the hard rules, whether there is none, and answers that satisfy
-    the model and that do not."""
+    """What was tried: sets of cells, those of them that keep the hard rules, whether there is none,
+    and answers that satisfy the model and that do not."""
     runs.put(case)
     status, text, err = runs.run("encode")
     if status or err:

@@ -1,22 +1,24 @@
 #!/usr/bin/env python3
-"""Runs the built program on weeks, rosters, files and answers made at random, and checks it from outside.
+"""Runs the built program on weeks, rosters, files and answers made at random, and checks it from
+outside.
 
 usage: fuzz.py [PROGRAM] [--seconds N] [--seed N]
 
-PROGRAM is crates/inrc2pb/out/inrc2pb where it is left out. The seed is printed; the same seed tries the same
-cases. Half of the weeks are tried as they were made, with several rosters: tests/random/random_rosters.py says what is
-compared. In the others, and in the files of examples/, bytes are cut, doubled and swapped, words and numbers
-exchanged, lines moved. What is checked of each run then:
+PROGRAM is crates/inrc2pb/out/inrc2pb where it is left out. The seed is printed; the same seed tries
+the same cases. Half of the weeks are tried as they were made, with several rosters:
+tests/random/random_rosters.py says what is compared. In the others, and in the files of examples/,
+bytes are cut, doubled and swapped, words and numbers exchanged, lines moved. What is checked of
+each run then:
 
-- its status is one of the list in docs/answers.md, and not that of out of memory or a failed read or write;
-- where it is not 0, standard error is one line of the stated form, standard output is empty, and no file is made;
-- the counts of a model's first line are those of its lines;
-- an answer in pieces ends as the whole answer does;
-- a roster of files that are read is judged as python/inrc2pb/judging/rules.py does;
-- a fault of a file is the one that the library `python/inrc2pb` reports, in the same file and line.
+- its status is one of the list in docs/answers.md, and not that of out of memory or a failed read
+or write; - where it is not 0, standard error is one line of the stated form, standard output is
+empty, and no file is made; - the counts of a model's first line are those of its lines; - an answer
+in pieces ends as the whole answer does; - a roster of files that are read is judged as
+python/inrc2pb/judging/rules.py does; - a fault of a file is the one that the library
+`python/inrc2pb` reports, in the same file and line.
 
-A case that fails is made smaller as long as it fails in the same way, and kept in a folder of its own under
-fuzz-failures/, with the command that shows it.
+A case that fails is made smaller as long as it fails in the same way, and kept in a folder of its
+own under fuzz-failures/, with the command that shows it.
 """
 
 import argparse
@@ -45,10 +47,14 @@ from shrink import shrunk
 
 MOST_FAILURES = 5  # then it ends, since each takes some seconds to be made small
 
-TEXTS = r"(end of file|another word expected|number expected|out of limits|unknown name|repeated|text after the end)"
+TEXTS = (
+    r"(end of file|another word expected|number expected|out of limits|unknown name|repeated|text"
+    r" after the end)"
+)
 FAULTS = {
     1: re.compile(
-        rf"inrc2pb: ((scenario|history|week|solution|fix)( line \d+)?: {TEXTS}|history: week not below WEEKS"
+        rf"inrc2pb: ((scenario|history|week|solution|fix)( line \d+)?: {TEXTS}|history: week not"
+        r" below WEEKS"
         r"|answer: (no status line or a second one|unknown status|bad literal|variable out of range"
         r"|variable with both values|bad o value))\n"
     ),
@@ -93,7 +99,8 @@ def change_words(chance, text):
     places = [i for i, word in enumerate(words) if word and not word.isspace()]
     if not places:
         return text
-    one, other = chance.choice(places), chance.choice(places)
+    one = chance.choice(places)
+    other = chance.choice(places)
     kind = chance.randrange(4)
     if kind == 0:
         words[one], words[other] = words[other], words[one]
@@ -147,8 +154,10 @@ def change_lines(chance, text):
     lines = text.splitlines(keepends=True)
     if not lines:
         return text
-    one, other = chance.randrange(len(lines)), chance.randrange(len(lines))
-    low, high = min(one, other), max(one, other) + 1
+    one = chance.randrange(len(lines))
+    other = chance.randrange(len(lines))
+    low = min(one, other)
+    high = max(one, other) + 1
     return "".join(
         chance.choice(
             [
@@ -173,7 +182,8 @@ def changed(chance, text):
 
 
 def changed_case(chance, weeks):
-    """A week and what goes with it, where one of the files, the answer and the roster may be changed."""
+    """A week and what goes with it, where one of the files, the answer and the roster may be
+    changed."""
     if chance.random() < 0.4:
         case, answers = chance.choice(weeks)
         case = dict(case)
@@ -181,7 +191,8 @@ def changed_case(chance, weeks):
         roster = legal_roster(chance, week)
     else:
         week, roster = random_week(chance)
-        case, answers = files_of(week), []
+        case = files_of(week)
+        answers = []
     case["answer"] = chance.choice(
         answers or ["s SATISFIABLE\nv x1\n", "o 5\ns OPTIMUM FOUND\nv -x1 x2 x3\nv x4 -x5\n"]
     )
@@ -233,7 +244,8 @@ def cut(text, cuts):
 
 
 def library_fault(case):
-    """The fault of the library for the files of the case, as the program's line, or an empty text."""
+    """The fault of the library for the files of the case, as the program's line, or an empty
+    text."""
     try:
         ward = files.read_scenario("scenario", case["sce"])
         history = files.read_history("history", ward, case["his"])
@@ -317,7 +329,10 @@ def main():
     given = reader.parse_args()
     weeks = list(example_weeks())
     print(f"seed {given.seed}", flush=True)
-    end, number, tried, failed = time.monotonic() + given.seconds, 0, 0, 0
+    end = time.monotonic() + given.seconds
+    number = 0
+    tried = 0
+    failed = 0
     while time.monotonic() < end and failed < MOST_FAILURES:
         number += 1
         with tempfile.TemporaryDirectory(prefix="inrc2pb-") as folder:

@@ -11,16 +11,19 @@ from plain_plans import POINTS, Period, choices
 from random_weeks import any_cell, legal_roster, random_requirements, random_week
 
 MAX_PRICE = 999_999_999
-# The most choices of a nurse for all days of a period, the most chains of nurses for which prices are sought, and the most leaves of a tree
-# that splits all choices.
-SIZES, FEW, LEAVES = (6, 40, 600), 200, 40
+# The most choices of a nurse for all days of a period, the most chains of nurses for which prices
+# are sought, and the most leaves of a tree that splits all choices.
+SIZES = (6, 40, 600)
+FEW = 200
+LEAVES = 40
 
 
 # ---- periods
 
 
 def random_period(chance) -> Period:
-    """One to three weeks of one or two nurses, with facts that leave few choices. Mostly there is a plan."""
+    """One to three weeks of one or two nurses, with facts that leave few choices. Mostly there is a
+    plan."""
     first, roster = random_week(chance, 2, 2, 2)
     with_extremes(chance, first)
     number = chance.choice([1, 1, 2, 2, 3])
@@ -28,11 +31,13 @@ def random_period(chance) -> Period:
     first.number = (
         first.weeks - number if chance.random() < 0.6 else chance.randint(0, first.weeks - number)
     )
-    weeks, rosters = [first], [roster]
+    weeks = [first]
+    rosters = [roster]
     while len(weeks) < number:
         week = copy.copy(first)
         rosters.append(legal_roster(chance, after(first, rosters[-1])))
-        names, shifts = list(week.nurses), ["Any", *week.shifts]
+        names = list(week.nurses)
+        shifts = ["Any", *week.shifts]
         week.requests = [
             (chance.choice(names), chance.choice(shifts), chance.randrange(7))
             for _ in range(chance.randint(0, 6))
@@ -68,7 +73,8 @@ def after(first, roster):
 
 
 def holds_mostly(chance, period: Period, rosters, fact) -> bool:
-    """Mostly whether the fact is true of these rosters; at random where they are no plan of the period."""
+    """Mostly whether the fact is true of these rosters; at random where they are no plan of the
+    period."""
     plan = plain_plans.plan_of(period, rosters)
     return (
         chance.random() < 0.5
@@ -123,9 +129,8 @@ def restriction(chance, period: Period, rosters):
 def random_fact(chance, period: Period) -> plain_plans.Fact:
     """A fact of any kind."""
     week = chance.randrange(len(period.weeks))
-    draft, kind = period.weeks[week], chance.choice(
-        ["CHOICE", "PLACE", "CHARGES", "CHARGES", "EVEN"]
-    )
+    draft = period.weeks[week]
+    kind = chance.choice(["CHOICE", "PLACE", "CHARGES", "CHARGES", "EVEN"])
     if kind == "CHOICE":
         return (
             kind,
@@ -172,7 +177,8 @@ def random_prices(chance, period: Period):
 
 
 def random_tree(chance, period: Period, lists: int, facts: Sequence[plain_plans.Fact] = ()):
-    """A tree of at most eight leaves, below a node with these facts. A fact comes once on a path."""
+    """A tree of at most eight leaves, below a node with these facts. A fact comes once on a
+    path."""
     depth = len(facts)
     if depth < 3 and chance.random() < (0.8, 0.6, 0.4)[depth]:
         fact = next(
@@ -209,7 +215,8 @@ def repeating_tree(chance, tree, facts: Sequence[plain_plans.Fact] = ()):
 
 
 def random_certificate(chance, period: Period, every: Dict[str, list]) -> Certificate:
-    """A certificate; if there are few chains, each list of prices is the best of some for one of its leaves."""
+    """A certificate; if there are few chains, each list of prices is the best of some for one of
+    its leaves."""
     if chance.random() < 0.6 and 0 < math.prod(map(len, every.values())) <= LEAVES:
         return whole_certificate(period)
     lists = chance.randint(1, 3)
@@ -230,7 +237,8 @@ def random_certificate(chance, period: Period, every: Dict[str, list]) -> Certif
 
 
 def whole_certificate(period: Period) -> Certificate:
-    """A tree that splits the choices of all days until one is left. Where nurses are missing, the price is the cost of a missing one."""
+    """A tree that splits the choices of all days until one is left. Where nurses are missing, the
+    price is the cost of a missing one."""
     prices: List[dict] = []
     days = [
         (week, nurse, day)
@@ -279,7 +287,8 @@ def fact_text(fact) -> str:
         words[2:3] = ["ALL"] if fact[2] is None else ["NURSE", fact[2]]
     elif fact[0] in ("CHOICE", "PLACE"):
         day = 3 if fact[0] == "CHOICE" else 2
-        words[1], words[day] = fact[1] + 1, DAYS[fact[day]]
+        words[1] = fact[1] + 1
+        words[day] = DAYS[fact[day]]
     return " ".join(map(str, words))
 
 
@@ -301,7 +310,8 @@ def table_text(prices, week: int) -> str:
 
 def certificate_text(period: Period, certificate: Certificate) -> str:
     """The text of a certificate."""
-    weeks, number = range(len(period.weeks)), len(list(leaves(certificate, [])))
+    weeks = range(len(period.weeks))
+    number = len(list(leaves(certificate, [])))
     lines = ["CERTIFICATE", "w", f"WEEKS = {len(weeks)}", f"PRICES = {len(certificate.prices)}"]
     lines += [table_text(prices, week) for prices in certificate.prices for week in weeks]
 

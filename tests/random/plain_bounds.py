@@ -1,7 +1,9 @@
-"""The bound of a certificate for a tiny period, in plain Python: each leaf by all that each nurse may do, and all places.
+"""The bound of a certificate for a tiny period, in plain Python: each leaf by all that each nurse
+may do, and all places.
 
-A certificate has lists of prices, each with the price of each place (a place without one has the price 0), and a tree: an inner node is
-("SPLIT", fact, the tree if it holds, the tree if not), a leaf ("LEAF", number of its list, surcharges).
+A certificate has lists of prices, each with the price of each place (a place without one has the
+price 0), and a tree: an inner node is ("SPLIT", fact, the tree if it holds, the tree if not), a
+leaf ("LEAF", number of its list, surcharges).
 """
 
 import math
@@ -24,7 +26,8 @@ class Certificate(NamedTuple):
 
 
 class Leaf(NamedTuple):
-    """A leaf: the conditions of its case, the given ones last, with the surcharge of each, and its prices."""
+    """A leaf: the conditions of its case, the given ones last, with the surcharge of each, and its
+    prices."""
 
     case: List[Condition]
     surcharges: List[int]
@@ -76,7 +79,8 @@ def limits(leaf: Leaf) -> List[Limit]:
 
 
 def weight(found: List[Limit], unit: int, kind: str, nurse: str) -> int:
-    """The weight of a charge: by the rules, with the surcharges of limits, less those of the opposite."""
+    """The weight of a charge: by the rules, with the surcharges of limits, less those of the
+    opposite."""
     own = [one for one in found if one.counts(kind, nurse)]
     return unit * POINTS[kind] + sum(one.surcharge if one.holds else -one.surcharge for one in own)
 
@@ -94,7 +98,8 @@ def gain(found: List[Limit]) -> int:
 def nurse_value(
     chain: Chain, leaf: Leaf, unit: int, weights: Dict[str, int], never: Sequence[str]
 ) -> float:
-    """What a nurse costs by this chain, less the highest prices of her cells; infinite if the case does not allow it."""
+    """What a nurse costs by this chain, less the highest prices of her cells; infinite if the case
+    does not allow it."""
     if any(chain.counts[kind] for kind in never):
         return NONE
     paid = 0
@@ -112,7 +117,8 @@ def nurse_value(
 def place_value(
     demand: Tuple[int, int], price: int, unit: int, place: Place, case: Sequence[Condition]
 ) -> int:
-    """What a place costs at least over all numbers of nurses, with the price of each, and with the nurses that the case gives up."""
+    """What a place costs at least over all numbers of nurses, with the price of each, and with the
+    nurses that the case gives up."""
     minimum, optimal = demand
     for fact, holds in case:
         if fact[0] == "PLACE" and fact[1:5] == place:
@@ -128,7 +134,8 @@ def place_value(
 def leaf_bound(
     period: Period, leaf: Leaf, every: Dict[str, List[Chain]], unit: int = POINT
 ) -> float:
-    """The bound of a leaf in thousandths of a point; 0 if the surcharges make a weight negative. With unit 0 soft rules do not count."""
+    """The bound of a leaf in thousandths of a point; 0 if the surcharges make a weight negative.
+    With unit 0 soft rules do not count."""
     found = limits(leaf)
     weights = {
         nurse: {kind: weight(found, unit, kind, nurse) for kind in POINTS} for nurse in every
@@ -154,7 +161,8 @@ def leaf_bound(
 
 
 def rounded_up(bound: float, case: Sequence[Condition]) -> float:
-    """In points, up to a multiple of 5: an even one if the number of charges of shift runs is even in this case, an odd one if odd."""
+    """In points, up to a multiple of 5: an even one if the number of charges of shift runs is even
+    in this case, an odd one if odd."""
     if bound == NONE:
         return NONE
     points = 5 * math.ceil(int(bound) / (5 * POINT))
@@ -176,7 +184,8 @@ def lower_bound(period: Period, certificate: Certificate, every: Dict[str, List[
 def minimums_bound(
     period: Period, certificate: Certificate, every: Dict[str, List[Chain]]
 ) -> float:
-    """The same without the soft rules and the surcharges: above 0 only if no plan keeps the hard rules."""
+    """The same without the soft rules and the surcharges: above 0 only if no plan keeps the hard
+    rules."""
     plain = [
         leaf._replace(surcharges=[0] * len(leaf.case)) for leaf in leaves(certificate, period.given)
     ]

@@ -1,7 +1,9 @@
-"""All plans of a tiny period, by docs/rules.md: what each nurse may do in all weeks, what it costs, and which charges it has.
+"""All plans of a tiny period, by docs/rules.md: what each nurse may do in all weeks, what it costs,
+and which charges it has.
 
-A period has drafts of its weeks (all with the history before the first one), whether totals are charged early, the held cells of each
-week as tuples (nurse, day, shift type, skill), and facts that all plans are asked to keep. A fact is a tuple:
+A period has drafts of its weeks (all with the history before the first one), whether totals are
+charged early, the held cells of each week as tuples (nurse, day, shift type, skill), and facts that
+all plans are asked to keep. A fact is a tuple:
 
     ("CHOICE", week, nurse, day, shift type or None)        weeks and days count from 0
     ("PLACE", week, day, shift type, skill, maximum)
@@ -23,7 +25,7 @@ Condition = Tuple[Fact, bool]
 Cell = Tuple[str, int, str, str]
 Place = Tuple[int, int, str, str]  # week, day, shift type, skill
 
-# The points of a charge of each kind.
+# The points of a charge of each kind: of S2, S6 and S7; and of S1.
 POINTS = {"SHIFT_RUNS": 15, "WORK_DAYS": 30, "SHIFTS": 20, "WEEKENDS": 30}
 MISSING = 30
 # The maximum number in a file.
@@ -72,7 +74,8 @@ class Past(NamedTuple):
 
 
 class Charged(NamedTuple):
-    """The numbers of charges by kind, the points of all other charges, and the history after them."""
+    """The numbers of charges by kind, the points of all other charges, and the history after
+    them."""
 
     counts: Dict[str, int]
     fixed: int
@@ -80,8 +83,8 @@ class Charged(NamedTuple):
 
 
 class Chain(NamedTuple):
-    """What a nurse does: her history before each week, her shift type on each day of all weeks, the skills that she may have then, and the
-    charges of all weeks."""
+    """What a nurse does: her history before each week, her shift type on each day of all weeks, the
+    skills that she may have then, and the charges of all weeks."""
 
     nurse: str
     pasts: Tuple[Past, ...]
@@ -95,7 +98,8 @@ class Chain(NamedTuple):
 
 
 def run(has: Sequence[bool], length: int, limits: Tuple[int, int]) -> Tuple[int, int, int]:
-    """The days of a week by which runs are above the maximum, and below the minimum, and the length on Sunday."""
+    """The days of a week by which runs are above the maximum, and below the minimum, and the length
+    on Sunday."""
     above = below = 0
     for one in has:
         if one:
@@ -108,7 +112,8 @@ def run(has: Sequence[bool], length: int, limits: Tuple[int, int]) -> Tuple[int,
 
 
 def excess(before: int, added: int, most: int, early: bool, is_last: bool) -> int:
-    """The charges of a total above its maximum: all of them in the last week, or, if they are charged early, those that this week adds."""
+    """The charges of a total above its maximum: all of them in the last week, or, if they are
+    charged early, those that this week adds."""
     if early:
         return max(0, before + added - most) - max(0, before - most)
     return max(0, before + added - most) if is_last else 0
@@ -118,10 +123,12 @@ def charged(
     period: Period, week: int, nurse: str, past: Past, shifts: Sequence[Optional[str]]
 ) -> Charged:
     """The charges of a nurse in a week, and her history after it."""
-    draft, is_last = period.weeks[week], period.is_last(week)
+    draft = period.weeks[week]
+    is_last = period.is_last(week)
     contract = draft.contracts[draft.nurses[nurse].contract]
     works = [shift is not None for shift in shifts]
-    of_shifts, on_sunday = 0, 0
+    of_shifts = 0
+    on_sunday = 0
     for shift, limits in draft.shifts.items():
         above, below, length = run(
             [one == shift for one in shifts], past.same if past.last == shift else 0, limits
@@ -143,8 +150,9 @@ def charged(
         "SHIFTS": excess(past.shifts, sum(works), contract.total[1], period.early, is_last),
         "WEEKENDS": excess(past.weekends, weekend, contract.weekends, period.early, is_last),
     }
-    fixed = 30 * (work_below + off_above + off_below) + 10 * requests + 20 * missing
-    fixed += 30 * (bool(contract.complete) and works[5] != works[6])
+    fixed = 30 * (work_below + off_above + off_below)  # S2 and S3
+    fixed += 10 * requests + 20 * missing  # S4 and S6
+    fixed += 30 * (bool(contract.complete) and works[5] != works[6])  # S5
     return Charged(
         counts,
         fixed,
@@ -158,7 +166,8 @@ def charged(
 def choices(
     period: Period, week: int, nurse: str, day: int
 ) -> Dict[Optional[str], Tuple[str, ...]]:
-    """Her choices of a day, each with the skills that she may have: a held cell is the only one, and two held cells leave none."""
+    """Her choices of a day, each with the skills that she may have: a held cell is the only one,
+    and two held cells leave none."""
     draft = period.weeks[week]
     held = {cell[2:] for cell in period.held[week] if cell[:2] == (nurse, day)}
     found: Dict[Optional[str], Tuple[str, ...]] = {} if held else {None: ()}
@@ -300,7 +309,8 @@ def places_of(chain: Chain) -> Iterator[Tuple[Place, ...]]:
 
 
 def plans(every: Dict[str, List[Chain]]) -> Iterator[Plan]:
-    """The plans in which each nurse does what she may do; they may break rules about places and held cells."""
+    """The plans in which each nurse does what she may do; they may break rules about places and
+    held cells."""
     for chosen in itertools.product(*every.values()):
         for places in itertools.product(*map(places_of, chosen)):
             yield Plan(chosen, places)
@@ -310,7 +320,8 @@ def plan_of(period: Period, rosters: Sequence[Sequence[Cell]]) -> Optional[Plan]
     """The plan of these rosters, if each nurse may do so."""
     found: List[Chain] = []
     for nurse in period.nurses:
-        chain, past = start(nurse), first_past(period, nurse)
+        chain = start(nurse)
+        past = first_past(period, nurse)
         for week, roster in enumerate(rosters):
             on = {cell[1]: cell[2] for cell in roster if cell[0] == nurse}
             shifts = tuple(on.get(day) for day in range(DAYS))

@@ -1,11 +1,13 @@
 #!/usr/bin/env python3
-"""Weeks, rosters and held cells made at random: the program beside python/inrc2pb/judging/rules.py, which is written from docs/rules.md.
+"""Weeks, rosters and held cells made at random: the program beside python/inrc2pb/judging/rules.py,
+which is written from docs/rules.md.
 
 usage: random_rosters.py PROGRAM [--weeks N] [--seed N]
 
-`extend` has to name the first hard rule that a roster breaks, or to tell its penalty; `decode` of that answer has to
-give the same roster, penalty and costs. Prints how many rosters were of each class, in weeks without options, with
-`--early`, with `--fix` and with both, and fails where a class has none.
+`extend` has to name the first hard rule that a roster breaks, or to tell its penalty; `decode` of
+that answer has to give the same roster, penalty and costs. Prints how many rosters were of each
+class, in weeks without options, with `--early`, with `--fix` and with both, and fails where a class
+has none.
 """
 
 import argparse
@@ -64,7 +66,8 @@ def check_roster(runs, case):
 
 def hard_class(week, roster, held):
     """The first broken rule, and in which of its ways it is broken."""
-    broken, shifts = first_broken(week, roster, held), rules.shifts_by_day(rows(roster))
+    broken = first_broken(week, roster, held)
+    shifts = rules.shifts_by_day(rows(roster))
     if broken == "H1":
         return (
             "H1 two shift types"
@@ -103,7 +106,10 @@ def counted_classes(week, roster, early):
     kinds = {tuple(name.split(",")[0].split(" ", 1)) for name in COUNTED}
     for rule, what in kinds:
         if may_charge(week, rule, what, early):
-            yield f"{rule} {what}{when if rule in ('S6', 'S7') else ''}: {'some' if (rule, what) in charged else 'none'}"
+            yield (
+                f"{rule} {what}{when if rule in ('S6', 'S7') else ''}:"
+                f" {'some' if (rule, what) in charged else 'none'}"
+            )
 
 
 def met_classes(week, roster):
@@ -200,7 +206,8 @@ def classes_of(case):
 
 def try_week(program, seed, number):
     """What the rosters of a week hit, and what was wrong."""
-    hits, wrong = collections.Counter(), []
+    hits = collections.Counter()
+    wrong = []
     with tempfile.TemporaryDirectory(prefix="inrc2pb-") as folder:
         runs = Runs(program, folder)
         for case in random_cases(seed, number):
@@ -215,7 +222,8 @@ def try_week(program, seed, number):
 
 def show(hits):
     """Prints the table of hits; which class was never hit."""
-    lines, never = [("rosters", "no option", "--early", "--fix", "both")], []
+    lines = [("rosters", "no option", "--early", "--fix", "both")]
+    never = []
     for name, columns in classes():
         lines.append(
             (name, *(hits[name, column] if column in columns else "-" for column in COLUMNS))
@@ -235,7 +243,8 @@ def main():
     reader.add_argument("--weeks", type=int, default=500)
     reader.add_argument("--seed", type=int, default=1)
     given = reader.parse_args()
-    hits, failed = collections.Counter(), []
+    hits = collections.Counter()
+    failed = []
     with concurrent.futures.ProcessPoolExecutor() as pool:
         for found, wrong in pool.map(
             functools.partial(try_week, given.program, given.seed), range(given.weeks), chunksize=10
@@ -246,7 +255,8 @@ def main():
     tried = sum(hits[name, column] for name in BROKEN for column in COLUMNS)
     print("".join(f"FAILED: {line}\n" for line in failed[:20]), end="")
     print(
-        f"random_rosters.py: seed {given.seed}, {given.weeks} weeks, {tried} rosters, {len(failed)} failed"
+        f"random_rosters.py: seed {given.seed}, {given.weeks} weeks, {tried} rosters,"
+        f" {len(failed)} failed"
     )
     sys.exit(1 if failed else 0)
 

@@ -61,7 +61,8 @@ def shuffled(chance, items):
 
 
 def random_week(chance, nurses=5, shifts=3, skills=3):
-    """A week of at most so many nurses, shift types and skills, with a roster that keeps its hard rules (mostly)."""
+    """A week of at most so many nurses, shift types and skills, with a roster that keeps its hard
+    rules (mostly)."""
     week = SimpleNamespace(name="w", weeks=chance.randint(1, 4))
     week.number = week.weeks - 1 if chance.random() < 0.5 else chance.randrange(week.weeks)
     week.skills = [f"k{k}" for k in range(chance.randint(1, skills))]
@@ -112,8 +113,10 @@ def random_week(chance, nurses=5, shifts=3, skills=3):
 
 
 def random_requirements(chance, week, roster):
-    """Requirements that the roster mostly meets; rows of some shift types and skills are left out."""
-    required, most = {}, chance.choice([0, 1, 3])
+    """Requirements that the roster mostly meets; rows of some shift types and skills are left
+    out."""
+    required = {}
+    most = chance.choice([0, 1, 3])
     for shift, skill in shuffled(chance, [(s, k) for s in week.shifts for k in week.skills]):
         if chance.random() < 0.2:
             continue
@@ -129,11 +132,9 @@ def random_requirements(chance, week, roster):
 
 def legal_days(chance, week, nurse):
     """Cells of a nurse that break no rule of her own."""
-    skills, before, likely = (
-        week.nurses[nurse].skills,
-        week.history[nurse].last,
-        chance.choice([0.2, 0.5, 0.8, 1]),
-    )
+    skills = week.nurses[nurse].skills
+    before = week.history[nurse].last
+    likely = chance.choice([0.2, 0.5, 0.8, 1])
     for day in range(7):
         allowed = [shift for shift in week.shifts if (before, shift) not in week.forbidden]
         before = None
@@ -157,7 +158,8 @@ def any_cell(chance, week):
 
 
 def changed_roster(chance, week, roster):
-    """The roster with a change that may break a rule: a cell less, one more, another one, other days of a nurse."""
+    """The roster with a change that may break a rule: a cell less, one more, another one, other
+    days of a nurse."""
     kind = chance.randrange(5)
     if kind == 0 or not roster:
         return roster + [any_cell(chance, week)]
@@ -179,7 +181,8 @@ def changed_roster(chance, week, roster):
 
 
 def random_roster(chance, week, roster):
-    """The roster after some changes, mostly such that it keeps the hard rules; no row stands twice."""
+    """The roster after some changes, mostly such that it keeps the hard rules; no row stands
+    twice."""
     for _ in range(chance.choice([0, 1, 2, 4, 8])):
         other = changed_roster(chance, week, roster)
         if chance.random() < 0.3 or not first_broken(week, other):
@@ -196,8 +199,8 @@ def random_held(chance, week, roster):
 
 
 def random_cases(seed, number):
-    """A week, the first ones of examples/, and rosters of it: each case has the texts of its files by the program's
-    options; one with `--early` has that name too."""
+    """A week, the first ones of examples/, and rosters of it: each case has the texts of its files
+    by the program's options; one with `--early` has that name too."""
     chance = random.Random(f"{seed} {number}")
     week, roster = (
         example_week(*EXAMPLES[number]) if number < len(EXAMPLES) else random_week(chance)

@@ -1,6 +1,7 @@
 #!/usr/bin/env bash
 # Compares the program with python/inrc2pb/judging/rules.py, which was written from docs/rules.md alone: on random weeks, rosters and held
-# cells, and on every roster of small weeks. Then runs the first cases of `make fuzz`.
+# cells, and on every roster of small weeks. Then runs the first cases of `make fuzz`. If Rattle's own compiler has built the program too,
+# both builds run on each case.
 #
 #   tests/random/random_weeks.sh [llvm | rattle | PROGRAM]
 #

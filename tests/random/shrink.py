@@ -45,7 +45,9 @@ class Shrinking:
     """A case that fails, and what makes it smaller; after some seconds nothing more is tried."""
 
     def __init__(self, case, fails, seconds):
-        self.case, self.fails, self.end = case, fails, time.monotonic() + seconds
+        self.case = case
+        self.fails = fails
+        self.end = time.monotonic() + seconds
 
     def accepts(self, case):
         if case == self.case or time.monotonic() > self.end or not self.fails(case):
@@ -54,7 +56,8 @@ class Shrinking:
         return True
 
     def drop(self, items, case_of):
-        """Drops items as long as the case of the others fails: all, then pieces of half the length, down to one."""
+        """Drops items as long as the case of the others fails: all, then pieces of half the length,
+        down to one."""
         size = len(items)
         while size:
             begin = 0
@@ -77,7 +80,8 @@ class Shrinking:
         )
 
     def drop_of_week(self):
-        """What is asked for, then names with all that speaks of them, then cells. Whether the files are laid out plainly."""
+        """What is asked for, then names with all that speaks of them, then cells. Whether the files
+        are laid out plainly."""
         try:
             self.accepts(self.plain())
             for name in (
@@ -155,7 +159,8 @@ class Shrinking:
 
 def shrunk(case, fails, seconds=20):
     """The smallest case that was found at which `fails` is still true."""
-    shrinking, before = Shrinking(case, fails, seconds), None
+    shrinking = Shrinking(case, fails, seconds)
+    before = None
     while before != shrinking.case:
         before = shrinking.case
         shrinking.drop_files()

@@ -1,4 +1,5 @@
-"""The command line, the runs and the report of a program that tries numbered cases, which a seed and the number make."""
+"""The command line, the runs and the report of a program that tries numbered cases, which a seed
+and the number make."""
 
 import argparse
 import concurrent.futures
@@ -8,10 +9,12 @@ import sys
 
 
 def run_trials(about, try_number, kinds, cases="weeks", default=90):
-    """Calls `try_number(program, seed, number)` for as many cases as the command line asks for, in several processes.
+    """Calls `try_number(program, seed, number)` for as many cases as the command line asks for, in
+    several processes.
 
-    It returns a count for each of the kinds, or the text of a mistake. The report has the sums of the counts with the words of
-    the kinds. The exit status is 1 if there is a mistake, or nothing of one kind was tried.
+    It returns a count for each of the kinds, or the text of a mistake. The report has the sums of
+    the counts with the words of the kinds. The exit status is 1 if there is a mistake, or nothing
+    of one kind was tried.
     """
     reader = argparse.ArgumentParser(
         description=about, formatter_class=argparse.RawDescriptionHelpFormatter
@@ -32,6 +35,7 @@ def run_trials(about, try_number, kinds, cases="weeks", default=90):
     print("".join(f"FAILED: {line}\n" for line in failed), end="")
     report = ", ".join(f"{number} {kind}" for number, kind in zip(sums, kinds))
     print(
-        f"{os.path.basename(sys.argv[0])}: seed {given.seed}, {given.cases} {cases}, {report}; {len(failed)} failed"
+        f"{os.path.basename(sys.argv[0])}: seed {given.seed}, {given.cases} {cases}, {report};"
+        f" {len(failed)} failed"
     )
     sys.exit(1 if failed else 0)

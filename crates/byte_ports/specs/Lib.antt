@@ -1,4 +1,7 @@
 pub mod MemoryPorts
+pub mod Openers
+pub mod Opening
+pub mod Paths
 pub mod PortCalls
 pub mod Ports
 pub mod SourceCalls

@@ -1,5 +1,5 @@
 -- How ports over memory move their bytes.
-use Rattle.std.specs.Prelude.{ℕ, ◌-◌, Bool, true, not, if◌then◌else◌, nat_lt, nat_eq, min, Option, Some, None, List, length}
+use Rattle.std.specs.Prelude.{ℕ, ◌-◌, Bool, true, not, if◌then◌else◌, nat_lt, nat_eq, min, Option, Some, None, length}
 use Rattle.byte_ports.specs.declared.memory_ports.MemorySource.{MemorySource}
 use Rattle.byte_ports.specs.declared.memory_ports.MemoryTarget.{MemoryTarget}
 use Rattle.byte_ports.specs.declared.memory_ports.CallPlan.{CallPlan}

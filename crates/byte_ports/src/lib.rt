@@ -12,9 +12,13 @@
 #![tactic(auto)]
 
 mod memory_ports;
+mod open_files;
+mod paths;
 mod ports;
 mod std_ports;
 
 pub use memory_ports::{CallPlan, MemorySource, MemoryTarget};
+pub use open_files::{OpenFault, open, open_if_named};
+pub use paths::{HasPath, Opens};
 pub use ports::{PortFault, Source, Target};
 pub use std_ports::{FromRead, ToWrite};

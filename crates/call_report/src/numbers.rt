@@ -1,6 +1,4 @@
 //! The numbers of the cells, and the size of the model.
-ghost use Rattle.rota_core.specs.InstanceTables.{problem_of};
-ghost use Rattle.rota_core.specs.Roster.{InWeek};
 
 use crate::files::Stop;
 use rota_core::{Cell, Instance};
@@ -9,9 +7,7 @@ use rota_items::{
 };
 
 // The last cell of the week.
-fn last_cell(instance: &Instance) -> Cell
-    ensures { InWeek (problem_of instance.now) result }
-{
+fn last_cell(instance: &Instance) -> Cell {
     Cell {
         nurse: instance.nurses() - 1,
         day: 6,

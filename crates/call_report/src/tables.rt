@@ -1,7 +1,5 @@
 //! The tables of a week: a line for each nurse, shift type and skill, for each skill that a nurse has, each
 //! forbidden succession, each demand, and each requested day off.
-ghost use Rattle.std.specs.Prelude.{◌<◌};
-ghost use Rattle.rota_core.specs.InstanceTables.{problem_of};
 
 use crate::files::Stop;
 use crate::words::{Place, text_of};
@@ -53,9 +51,7 @@ fn print_shifts<R: Print>(rt: &R, instance: &Instance) -> Result<(), Stop> {
 }
 
 // The shift types that may not follow this one.
-fn print_successions<R: Print>(rt: &R, instance: &Instance, shift: u8) -> Result<(), Stop>
-    requires { shift < (problem_of instance.now).shifts }
-{
+fn print_successions<R: Print>(rt: &R, instance: &Instance, shift: u8) -> Result<(), Stop> {
     for next in 0..instance.shifts() {
         if instance.forbidden(shift, next) {
             println!(rt; "not before {next}")?;
@@ -113,9 +109,7 @@ fn print_past<R: Print>(rt: &R, past: &Past) -> Result<(), Stop> {
 }
 
 // The skills that the nurse has.
-fn print_skills_of<R: Print>(rt: &R, instance: &Instance, nurse: u16) -> Result<(), Stop>
-    requires { nurse < (problem_of instance.now).nurses }
-{
+fn print_skills_of<R: Print>(rt: &R, instance: &Instance, nurse: u16) -> Result<(), Stop> {
     for skill in 0..instance.skills() {
         if instance.has_skill(nurse, skill) {
             println!(rt; "has skill {skill}")?;
@@ -125,9 +119,7 @@ fn print_skills_of<R: Print>(rt: &R, instance: &Instance, nurse: u16) -> Result<
 }
 
 // The day and shift type of each cell that request rows of the nurse match, and the number of such rows.
-fn print_requests_of<R: Print>(rt: &R, instance: &Instance, nurse: u16) -> Result<(), Stop>
-    requires { nurse < (problem_of instance.now).nurses }
-{
+fn print_requests_of<R: Print>(rt: &R, instance: &Instance, nurse: u16) -> Result<(), Stop> {
     for day in 0..DAYS {
         for shift in 0..instance.shifts() {
             let rows = instance.requests(nurse, day, shift);

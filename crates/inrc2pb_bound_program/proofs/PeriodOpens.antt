@@ -3,34 +3,35 @@ use Rattle.std.proofs.Common.{◌≡◌, ◌∙◌, ◌+◌, ◌<◌, ◌≤◌,
 use Rattle.std.proofs.Common.{suc, Result, Ok, Err}
 use Rattle.std.proofs.lemmas.List.{append-nil, drop_all, drop_more}
 use Rattle.byte_ports.specs.declared.ports.Source.{Ghosts as SourceGhosts}
-use Rattle.rota_pb.specs.declared.fault.Fault.{Fault}
-use Rattle.rota_pb.specs.declared.fault.Fault.TheVariants.{Memory}
-use Rattle.inrc2pb_job.specs.Openers.{OpensAs, opener_at}
-use Rattle.inrc2pb_job.specs.Opening.{Opening, OpensInTurn, ◌>>=◌, end_as, stopped, went_on}
-use Rattle.inrc2pb_job.specs.Paths.{FileAt, Path}
-use Rattle.inrc2pb_job.specs.declared.paths.Opens.{Ghosts as OpensGhosts}
-use Rattle.inrc2pb_job.proofs.OpeningLemmas.{opens_none, opens_stopped, opens_then}
+use Rattle.byte_ports.specs.declared.open_files.OpenFault.{OpenFault}
+use Rattle.byte_ports.specs.declared.open_files.OpenFault.TheVariants.{Memory}
+use Rattle.byte_ports.specs.Openers.{OpensAs, opener_at}
+use Rattle.byte_ports.specs.Opening.{Opening, ◌>>=◌, end_as}
+use Rattle.byte_ports.specs.Paths.{FileAt, Path}
+use Rattle.byte_ports.specs.declared.paths.Opens.{Ghosts as OpensGhosts}
+use Rattle.byte_ports.proofs.OpenedFiles.{went}
+use Rattle.byte_ports.proofs.OpeningLemmas.{opens_none, opens_stopped, opens_then}
 use Rattle.inrc2pb_bound_program.specs.PeriodOpening.{open_each, open_in_order}
 
 -- the result with these before what was found
-abbrev after : {B : Type 0} → List B → Result (List B) Fault → Result (List B) Fault
+abbrev after : {B : Type 0} → List B → Result (List B) OpenFault → Result (List B) OpenFault
 after first (Ok later) = Ok (first ++ later)
 after first (Err fault) = Err fault
 
-after-none : {B : Type 0} (result : Result (List B) Fault) → after [] result ≡ result
+after-none : {B : Type 0} (result : Result (List B) OpenFault) → after [] result ≡ result
 after-none (Ok later) = refl
 after-none (Err fault) = refl
 
-after-both : {B : Type 0} (first second : List B) (result : Result (List B) Fault) → after first (after second result) ≡ after (first ++ second) result
+after-both : {B : Type 0} (first second : List B) (result : Result (List B) OpenFault) → after first (after second result) ≡ after (first ++ second) result
 after-both first second (Ok later) = ap Ok (sym (append_assoc first second later))
 after-both first second (Err fault) = refl
 
 module _ {O F A B : Type 0} (opens : OpensGhosts O F) (source : SourceGhosts F) (one_of : A → Opening B) where
-  abbrev Opened : {V : Type 0} → O → O → Opening V → Result V Fault → Type 0
+  abbrev Opened : {V : Type 0} → O → O → Opening V → Result V OpenFault → Type 0
   Opened old new step result = OpensAs (opener_at opens source old new) step result
 
   -- there was memory for the files
-  with_room : (old new : O) (xs : List A) (result : Result (List B) Fault) → Opened old new (open_in_order one_of xs) result →
+  with_room : (old new : O) (xs : List A) (result : Result (List B) OpenFault) → Opened old new (open_in_order one_of xs) result →
       Opened old new (open_each one_of xs) result
   unfolding open_in_order
   with_room old new [] result opened = opened
@@ -44,7 +45,7 @@ module _ {O F A B : Type 0} (opens : OpensGhosts O F) (source : SourceGhosts F) 
   module _ (xs : List A) where
     -- the files of the first i were opened, and these were found: each end of the rest is an end of the whole
     pub record HasOpened (start now : O) (i : ℕ) (found : List B) : Type 0 where
-      pub goes_on : (end : O) (result : Result (List B) Fault) → Opened now end (open_in_order one_of (drop i xs)) result →
+      pub goes_on : (end : O) (result : Result (List B) OpenFault) → Opened now end (open_in_order one_of (drop i xs)) result →
           Opened start end (open_in_order one_of xs) (after found result)
 
     pub opens_first : (start : O) → HasOpened start start 0 []
@@ -53,7 +54,7 @@ module _ {O F A B : Type 0} (opens : OpensGhosts O F) (source : SourceGhosts F) 
     }
 
     -- the whole, after the first
-    one_more : (one : B) (later : List A) (now end : O) (result : Result (List B) Fault) → Opened now end (open_in_order one_of later) result →
+    one_more : (one : B) (later : List A) (now end : O) (result : Result (List B) OpenFault) → Opened now end (open_in_order one_of later) result →
         Opened now end (open_in_order one_of later >>= λ more. end_as (λ found. found ≡ one ∷ more)) (after (one ∷ []) result)
     one_more one later now end (Ok more) opened = opens_then opened (opens_none refl)
     one_more one later now end (Err fault) opened = opens_stopped (Err fault) refl opened
@@ -84,7 +85,7 @@ module _ {O F A B : Type 0} (opens : OpensGhosts O F) (source : SourceGhosts F) 
         }
 
         -- the next one was not opened
-        pub stops_next : (fault : Fault) → Opened now next (one_of x) (Err fault) → Opened start next (open_each one_of xs) (Err fault)
+        pub stops_next : (fault : OpenFault) → Opened now next (one_of x) (Err fault) → Opened start next (open_each one_of xs) (Err fault)
         unfolding open_in_order
         stops_next fault stops =
             with_room start next xs (Err fault)
@@ -92,13 +93,6 @@ module _ {O F A B : Type 0} (opens : OpensGhosts O F) (source : SourceGhosts F) 
             (opens_stopped (Err fault) refl stops)))
 
 -- ---- what was opened
-
--- the value of the first step, and how the rest ended
-pub went : {A B : Type 0} {step : Opening A} {next : A → Opening B} {at : Path → FileAt} {asked : List Path} {value : B} →
-    OpensInTurn step next at asked (Ok value) →
-    (found : A) × (first later : List Path) × step.ends at first (Ok found) × (next found).ends at later (Ok value)
-went (stopped fault is ends) = absurd (cc is)
-went (went_on found first later of_these ends rest) = (found, first, later, ends, rest)
 
 order-length : {A B : Type 0} (one_of : A → Opening B) (xs : List A) (ys : List B) (at : Path → FileAt) (asked : List Path) →
     (open_in_order one_of xs).ends at asked (Ok ys) → length ys ≡ length xs

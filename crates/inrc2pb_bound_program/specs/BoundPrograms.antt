@@ -1,9 +1,10 @@
 -- The effects of a run of the bound's program, from its words to its exit status.
 use Rattle.std.specs.Prelude.{◌≡◌, ℕ, Result, Ok, Err}
 use Rattle.clap.specs.Words.{matches_of}
+use Rattle.byte_ports.specs.Openers.{Opener, OpensAs}
+use Rattle.byte_ports.specs.declared.open_files.OpenFault.{OpenFault}
+use Rattle.rota_pb.specs.OpenFaults.{fault_of_opening}
 use Rattle.rota_pb.specs.RunPorts.{IsUntouched, Writer}
-use Rattle.rota_pb.specs.declared.fault.Fault.{Fault}
-use Rattle.inrc2pb_job.specs.Openers.{Opener, OpensAs}
 use Rattle.inrc2pb_frame.specs.Exits.{PrinterState}
 use Rattle.inrc2pb_frame.specs.Given.{Given}
 use Rattle.inrc2pb_frame.specs.Runs.{IsRun, IsWholeRun, Program}
@@ -30,8 +31,8 @@ inrc2pb_bound = record {
 -- them: they are `opened` before the run, and `left` after it.
 pub data BoundOutcome {F : Type 0} (opener : Opener F) (job : BoundJob) (out : Writer) (result : Result (Unit {0}) PeriodFault) :
     Type 0 where
-  unopened : (fault : Fault) → result ≡ Err (Run fault) → OpensAs opener (open_period opener.port job.paths) (Err fault) → IsUntouched out →
-      BoundOutcome opener job out result
+  unopened : (fault : OpenFault) → result ≡ Err (Run (fault_of_opening fault)) →
+      OpensAs opener (open_period opener.port job.paths) (Err fault) → IsUntouched out → BoundOutcome opener job out result
   ran : (opened left : PeriodFiles F) → OpensAs opener (open_period opener.port job.paths) (Ok opened) →
       AnswersFrom job.question opener.port opened left out result → BoundOutcome opener job out result
 

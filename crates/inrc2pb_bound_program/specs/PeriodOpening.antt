@@ -2,7 +2,7 @@
 use Rattle.std.specs.Prelude.{◌≡◌, List, [], ◌∷◌, Result, Ok, Err, Vec, option_map, string_bytes}
 use Rattle.std.specs.declared.string.String.{String}
 use Rattle.byte_ports.specs.declared.ports.Source.{Ghosts}
-use Rattle.inrc2pb_job.specs.Opening.{Opening, ◌>>=◌, end_as, make_room, open_at, open_if_named}
+use Rattle.byte_ports.specs.Opening.{Opening, ◌>>=◌, end_as, make_room, open_at, open_if_named}
 use Rattle.rota_bound_run.specs.declared.files.PeriodFiles.{PeriodFiles}
 use Rattle.rota_bound_run.specs.declared.files.WeekFiles.{WeekFiles}
 

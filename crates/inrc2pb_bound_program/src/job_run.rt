@@ -1,13 +1,12 @@
 //! The job, performed over any files and any output.
-ghost use Rattle.inrc2pb_job.specs.Openers.{opener_at};
+ghost use Rattle.byte_ports.specs.Openers.{opener_at};
 ghost use Rattle.rota_pb.specs.RunPorts.{writer_of};
 ghost use Rattle.rota_bound_run.specs.PeriodFiles.{AreFiles};
 ghost use Rattle.inrc2pb_bound_program.specs.BoundPrograms.{BoundOutcome};
 
 use crate::job::BoundJob;
 use crate::open_files::open_period;
-use byte_ports::Target;
-use inrc2pb_job::Opens;
+use byte_ports::{Opens, Target};
 use rota_bound_run::run_bound;
 use rota_pb::PeriodFault;
 use std::alloc::Global;

@@ -7,6 +7,8 @@ mod command_line;
 mod fixes;
 mod job;
 mod job_run;
+/// What each exit status says of the files.
+pub mod laws;
 mod open_files;
 mod run;
 

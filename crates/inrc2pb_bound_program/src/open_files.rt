@@ -1,11 +1,10 @@
 //! The files of a job, open.
-ghost use Rattle.inrc2pb_job.specs.Openers.{OpensAs, opener_at};
+ghost use Rattle.byte_ports.specs.Openers.{OpensAs, opener_at};
 ghost use Rattle.inrc2pb_bound_program.specs.PeriodOpening.{list_of, open_each as each_opening, open_path as path_opening};
 ghost use Rattle.inrc2pb_bound_program.specs.PeriodOpening.{open_period as period_opening, open_week as week_opening};
 
-use inrc2pb_job::{Opens, open, open_if_named};
+use byte_ports::{OpenFault, Opens, open, open_if_named};
 use rota_bound_run::{PeriodFiles, WeekFiles};
-use rota_pb::Fault;
 use std::alloc::Global;
 
 /// Opens the files, in the order in which they are read.
@@ -16,7 +15,7 @@ pub fn open_period<O: Opens>(
     alloc: Global,
     files: &mut O,
     paths: &PeriodFiles<String>,
-) -> Result<PeriodFiles<O::File>, Fault>
+) -> Result<PeriodFiles<O::File>, OpenFault>
     ensures { OpensAs (opener_at O.Opens O.File.Source files.old files.new)
         (period_opening O.File.Source paths.now) result }
 {
@@ -35,7 +34,7 @@ fn open_weeks<O: Opens>(
     alloc: Global,
     files: &mut O,
     weeks: &[WeekFiles<String>],
-) -> Result<Vec<WeekFiles<O::File>>, Fault>
+) -> Result<Vec<WeekFiles<O::File>>, OpenFault>
     ensures { OpensAs (opener_at O.Opens O.File.Source files.old files.new)
         (each_opening (week_opening O.File.Source) weeks.now) (list_of result) }
 {
@@ -51,7 +50,7 @@ fn open_weeks<O: Opens>(
 fn open_week<O: Opens>(
     files: &mut O,
     paths: &WeekFiles<String>,
-) -> Result<WeekFiles<O::File>, Fault>
+) -> Result<WeekFiles<O::File>, OpenFault>
     ensures { OpensAs (opener_at O.Opens O.File.Source files.old files.new)
         (week_opening O.File.Source paths.now) result }
 {
@@ -66,7 +65,7 @@ fn open_each<O: Opens>(
     alloc: Global,
     files: &mut O,
     paths: &[String],
-) -> Result<Vec<O::File>, Fault>
+) -> Result<Vec<O::File>, OpenFault>
     ensures { OpensAs (opener_at O.Opens O.File.Source files.old files.new)
         (each_opening (path_opening O.File.Source) paths.now) (list_of result) }
 {

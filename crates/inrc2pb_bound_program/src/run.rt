@@ -1,7 +1,7 @@
 //! A run of the program, from its words to its status.
 ghost use Rattle.std.specs.Prelude.{IfErr, IfOk};
 ghost use Rattle.std.specs.Process.{exit_status as code_of};
-ghost use Rattle.inrc2pb_job.specs.Openers.{opener_at};
+ghost use Rattle.byte_ports.specs.Openers.{opener_at};
 ghost use Rattle.inrc2pb_frame.specs.Exits.{AreSound, printer_state};
 ghost use Rattle.inrc2pb_frame.specs.Given.{IsJobGiven, IsStopGiven};
 ghost use Rattle.inrc2pb_frame.specs.Runs.{IsJobFor, IsStopFor};
@@ -13,9 +13,8 @@ use crate::command::NAME;
 use crate::command_line;
 use crate::job::BoundJob;
 use crate::job_run::perform;
-use byte_ports::Target;
+use byte_ports::{Opens, Target};
 use inrc2pb_frame::{Printer, Stop, borrowed, exit_code, kept};
-use inrc2pb_job::Opens;
 use std::alloc::Global;
 use std::env::Args;
 use std::io;

@@ -1,10 +1,12 @@
 pub mod Arguments
+pub mod Contents
 pub mod ErrorStops
 pub mod Exits
 pub mod FaultLines
 pub mod Faults
 pub mod Files
 pub mod Given
+pub mod JobEnds
 pub mod Messages
 pub mod Options
 pub mod Placing

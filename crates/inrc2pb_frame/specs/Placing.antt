@@ -1,7 +1,7 @@
 -- The file that a job writes gets its path.
 use Rattle.std.specs.Prelude.{◌≡◌, Option, None}
 use Rattle.rota_pb.specs.RunPorts.{RunPort}
-pub use Rattle.inrc2pb_job.specs.Paths.{Path}
+pub use Rattle.byte_ports.specs.Paths.{Path}
 pub use Rattle.byte_ports.specs.declared.ports.Target.{Ghosts as TargetGhosts}
 
 -- a file that a job may write: a target that may have a path

@@ -4,12 +4,11 @@ ghost use Rattle.std.specs.Fs.{new_options, with_create, with_truncate, with_wri
 ghost use Rattle.inrc2pb_frame.specs.Files.{IsFlushed, IsKept, IsWritten, left_of};
 ghost use Rattle.inrc2pb_frame.specs.Placing.{IsPlaced, file_ghosts};
 ghost use Rattle.byte_ports.specs.TargetCalls.{CountsBytes, FlushesSent, WritesPiece};
-ghost use Rattle.inrc2pb_job.specs.Paths.{unknown};
+ghost use Rattle.byte_ports.specs.Paths.{unknown};
 ghost use Rattle.byte_ports.specs.StdPorts.{IsUnasked};
 
 use crate::output_file::OutputFile;
-use byte_ports::{FromRead, PortFault, Target, ToWrite};
-use inrc2pb_job::{HasPath, Opens};
+use byte_ports::{FromRead, HasPath, Opens, PortFault, Target, ToWrite};
 use std::alloc::AllocError;
 use std::fs::OpenOptions;
 use std::io::Read;

@@ -2,8 +2,7 @@
 ghost use Rattle.std.specs.Prelude.{◌≡◌, IfErr, IfOk, None, option_map};
 ghost use Rattle.inrc2pb_frame.specs.Placing.{IsPlaced, file_ghosts};
 
-use byte_ports::Target;
-use inrc2pb_job::HasPath;
+use byte_ports::{HasPath, Target};
 use std::alloc::AllocError;
 
 /// The file that a job writes. Its path is known only after the words have been read.

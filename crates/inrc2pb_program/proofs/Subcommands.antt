@@ -15,7 +15,7 @@ use Rattle.clap.proofs.OnLiterals.{clap_on_literals}
 use Rattle.inrc2pb_program.specs.CommandLine.{inrc2pb_app}
 use Rattle.inrc2pb_frame.specs.Options.{options_of}
 use Rattle.inrc2pb_program.specs.Jobs.{IsJobOf, IsSubcommand, LacksPath, Matched}
-use Rattle.inrc2pb_job.specs.declared.job.Job.{Job}
+use Rattle.inrc2pb_program.specs.declared.job.Job.{Job}
 use Rattle.inrc2pb_frame.specs.ErrorStops.{IsStopOf}
 use Rattle.inrc2pb_frame.specs.Runs.{IsJobFor, IsStopFor}
 use Rattle.inrc2pb_frame.specs.Stops.{IsForMemoryOr}

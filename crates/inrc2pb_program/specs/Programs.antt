@@ -4,9 +4,8 @@ use Rattle.clap.specs.Words.{subcommand_of}
 use Rattle.rota_pb.specs.RunPorts.{IsUntouched, Reader, Writer, writer_of}
 use Rattle.rota_pb.specs.declared.fault.Fault.{Fault}
 use Rattle.rota_pb.specs.declared.period_fault.PeriodFault.TheVariants.{Run}
-use Rattle.inrc2pb_job.specs.Jobs.{output_path_of}
-use Rattle.inrc2pb_job.specs.Openers.{Opener}
-use Rattle.inrc2pb_job.specs.JobOutcomes.{JobOutcome}
+use Rattle.byte_ports.specs.Openers.{Opener}
+use Rattle.inrc2pb_program.specs.JobOutcomes.{JobOutcome}
 use Rattle.inrc2pb_program.specs.CommandLine.{inrc2pb_app}
 use Rattle.inrc2pb_frame.specs.Placing.{IsPlaced, JobFile}
 use Rattle.inrc2pb_frame.specs.Exits.{PrinterState}
@@ -14,7 +13,7 @@ use Rattle.inrc2pb_frame.specs.Given.{Given}
 use Rattle.inrc2pb_frame.specs.Runs.{IsRun, IsWholeRun, Program}
 use Rattle.inrc2pb_frame.specs.declared.stop.Stop.{Stop}
 use Rattle.inrc2pb_frame.specs.declared.stop.Stop.TheVariants as stops
-use Rattle.inrc2pb_program.specs.Jobs.{IsJobOf, Job, LacksPath}
+use Rattle.inrc2pb_program.specs.Jobs.{IsJobOf, Job, LacksPath, output_path_of}
 
 -- the program `inrc2pb`: words are misused if a required path is missing
 abbrev pub inrc2pb : Program Job

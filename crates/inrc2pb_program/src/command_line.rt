@@ -7,9 +7,9 @@ ghost use Rattle.inrc2pb_program.specs.Jobs.{HasInputs, IsJobOf, IsSubcommand, L
 ghost use Rattle.inrc2pb_program.specs.Programs.{inrc2pb};
 
 use crate::command;
+use crate::job::{Inputs, Job};
 use clap::ArgMatches;
 use inrc2pb_frame::{Stop, has_flag, optional_path, required_path};
-use inrc2pb_job::{Inputs, Job};
 use std::alloc::Global;
 
 /// The job that the words spell, or the reason why the program ends without one. The first word is the program's

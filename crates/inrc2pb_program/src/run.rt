@@ -6,14 +6,15 @@ ghost use Rattle.inrc2pb_frame.specs.Given.{IsJobGiven, IsStopGiven};
 ghost use Rattle.inrc2pb_frame.specs.Placing.{HaveNoPath, file_of};
 ghost use Rattle.inrc2pb_frame.specs.Runs.{IsJobFor, IsStopFor};
 ghost use Rattle.inrc2pb_program.specs.Programs.{IsEndOf, ProgramOutcome, RunOutcome, inrc2pb};
-ghost use Rattle.inrc2pb_job.specs.Openers.{opener_at};
+ghost use Rattle.byte_ports.specs.Openers.{opener_at};
 ghost use Rattle.rota_pb.specs.RunPorts.{reader_of, writer_of};
 
 use crate::command::NAME;
 use crate::command_line;
-use byte_ports::{Source, Target};
+use crate::job::Job;
+use crate::job_run::perform;
+use byte_ports::{HasPath, Opens, Source, Target};
 use inrc2pb_frame::{OutputFile, Printer, Stop, borrowed, exit_code, kept};
-use inrc2pb_job::{HasPath, Job, Opens, perform};
 use rota_pb::{Fault, PeriodFault};
 use std::alloc::Global;
 use std::env::Args;

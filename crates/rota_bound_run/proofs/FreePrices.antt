@@ -1,5 +1,5 @@
 -- A certificate of one leaf, in which each price is 0.
-use Rattle.std.proofs.Common.{◌≡◌, ℕ, ap, sym, ◌∙◌, arith, List, [], ◌∷◌, length}
+use Rattle.std.proofs.Common.{◌≡◌, ℕ, ap, sym, ◌∙◌, arith, [], length}
 use Rattle.std.specs.List.{AllByRecursion}
 use Rattle.rota_core.specs.InstanceTables.{InstanceTables, problem_of}
 use Rattle.rota_core.specs.PriceTables.{IsForWeek, PriceTables}
@@ -7,18 +7,15 @@ use Rattle.rota_core.specs.Certificates.{IsTreeFor}
 use Rattle.rota_core.specs.ScenarioTables.{ScenarioTables}
 use Rattle.rota_core.specs.Trees.{leaf_tree, leaves_in}
 use Rattle.rota_core.specs.declared.certificate.Certificate.{Certificate}
+use Rattle.rota_core.proofs.LogicWords.{all-weaker}
 use Rattle.rota_bound_run.specs.CertificateRead.{AreFreeTables, IsFree, IsFreeCertificate}
-
--- what holds of each element implies something else of it
-all-imply : {X : Type 0} (P Q : X → Type 0) → ((x : X) → P x → Q x) → (xs : List X) → AllByRecursion P xs → AllByRecursion Q xs
-all-imply P Q implies [] all = tt
-all-imply P Q implies (x ∷ xs) all = (implies x all.0, all-imply P Q implies xs all.1)
 
 for-week : (t : ScenarioTables) (week : InstanceTables) → week.scenario ≡ t → (table : PriceTables) → IsFree t table → IsForWeek
     (problem_of week) table
 for-week t week same table free = record {
   shifts = free.shifts ∙ ap (λ (s : ScenarioTables). length s.shifts) (sym same);
   skills = free.skills ∙ ap (λ (s : ScenarioTables). length s.skills) (sym same);
+  within = λ d s k. omega (arith, free.free d s k);
 }
 
 pub is-free : (t : ScenarioTables) (weeks : ℕ) (found : Certificate) →
@@ -29,9 +26,9 @@ is-free t weeks found free one leaf = record {
   fits = record {
     each = λ week same. record {
       prices =
-          all-imply (λ list. AreFreeTables t weeks list.items)
+          all-weaker (λ list. AreFreeTables t weeks list.items)
           (λ list. (length list.items ≡ weeks) × AllByRecursion (IsForWeek (problem_of week)) list.items)
-          (λ list are. (are.count, all-imply (IsFree t) (IsForWeek (problem_of week)) (for-week t week same) list.items are.free))
+          (λ list are. (are.count, all-weaker (IsFree t) (IsForWeek (problem_of week)) (for-week t week same) list.items are.free))
           found.prices.items free;
       tree = rw leaf (record { number = omega (arith, one); surcharges = tt });
       count = rw leaf (omega arith);

@@ -1,5 +1,5 @@
 -- The rosters of a period, judged one after the other.
-use Rattle.std.proofs.Common.{◌≡◌, ℕ, suc, ◌+◌, ◌*◌, ◌^◌, ◌<◌, ◌≤◌, refl, ap, sym, ◌∙◌, subst, arith, List, [], ◌∷◌, ◌++◌, length, take, drop, get_or, length-append}
+use Rattle.std.proofs.Common.{◌≡◌, ℕ, ◌+◌, ◌*◌, ◌^◌, ◌<◌, ◌≤◌, refl, ap, sym, ◌∙◌, subst, arith, List, [], ◌∷◌, ◌++◌, length, drop, get_or, length-append}
 use Rattle.std.specs.Prelude.{Some, slice_get, slice_index_or}
 use Rattle.std.specs.List.{AllByRecursion}
 use Rattle.std.proofs.lemmas.List.{drop_more}
@@ -7,25 +7,24 @@ use Rattle.std.proofs.lemmas.Option.{slice_get_read}
 use Rattle.std.proofs.lemmas.List.Sums.{sum_by-append, sum_by-cons}
 use Rattle.rota_core.specs.HardRules.{KeepsHardRules}
 use Rattle.rota_core.specs.InstanceTables.{InstanceTables, problem_of}
-use Rattle.rota_core.specs.RosterTables.{HasShapeOf, RosterTables, set_of}
+use Rattle.rota_core.specs.RosterTables.{RosterTables, set_of}
 use Rattle.rota_core.specs.Sizes.{Numbers}
 use Rattle.rota_core.specs.declared.values.Past.{Past}
 use Rattle.rota_core.proofs.LogicWords.{AllByRecursion-append}
 use Rattle.rota_rules.specs.CostBounds.{penalty_limit}
 use Rattle.rota_rules.specs.Penalty.{penalty}
-use Rattle.rota_certificate.specs.CountedCharges.{HaveShapes, numbers_in}
+use Rattle.rota_certificate.specs.CountedCharges.{numbers_in}
 use Rattle.rota_certificate.specs.Plans.{Pasts, after, history_after, plan_after, plan_cost, plan_from}
 use Rattle.rota_certificate.specs.PeriodBounds.{IsPeriod}
 use Rattle.rota_certificate.proofs.CountedPlans.{numbers-at}
 use Rattle.rota_bound_run.specs.Judging.{history_left}
 use Rattle.rota_bound_run.specs.JudgedWeeks.{ArePastsIn, IsJudgedWeek}
 use Rattle.rota_bound_run.specs.declared.judged_week.JudgedWeek.{JudgedWeek}
-use Rattle.rota_bound_run.proofs.PlanSteps.{before, history-more, plan-more, planned, shapes-more}
+use Rattle.rota_bound_run.proofs.PlanSteps.{before, history-more, plan-more, planned}
 
 -- these rosters of the first weeks keep the hard rules, at this penalty, and leave these pasts
 pub record AreJudged (weeks : List InstanceTables) (i : ℕ) (rosters : List RosterTables) (cost : ℕ) (pasts : List Past) : Type 0 where
   pub number : length rosters ≡ i
-  pub shapes : HaveShapes (take i weeks) rosters
   pub keep : AllByRecursion (λ one. KeepsHardRules one.week one.roster) (plan_from weeks rosters)
   pub cost_is : cost ≡ plan_cost (plan_from weeks rosters)
   pub small : cost ≤ i * penalty_limit
@@ -42,7 +41,6 @@ judges-start (week ∷ weeks) first rosters pasts some is none are =
     subst (λ (none : List RosterTables). AreJudged (week ∷ weeks) 0 none 0 pasts) (sym none)
     (record {
       number = refl;
-      shapes = tt;
       keep = tt;
       cost_is = refl;
       small = omega arith;
@@ -53,12 +51,11 @@ module _ (weeks : List InstanceTables) (i : ℕ) (rosters : List RosterTables) (
     (judged : AreJudged weeks i rosters cost pasts) where
   -- one more roster is judged
   pub judges-more : (week : InstanceTables) → drop i weeks ≡ (week ∷ drop (i + 1) weeks) → (problem_of week).numbers ≡ numbers_in weeks →
-      (roster : RosterTables) → HasShapeOf (problem_of week) roster → (found : JudgedWeek) →
+      (roster : RosterTables) → (found : JudgedWeek) →
       IsJudgedWeek (after (problem_of week) (before weeks rosters)) roster found →
       AreJudged weeks (i + 1) (rosters ++ roster ∷ []) (cost + found.penalty) found.pasts.items
-  judges-more week here numbers roster shape found is =
+  judges-more week here numbers roster found is =
       let at : drop (length rosters) weeks ≡ (week ∷ drop (i + 1) weeks) = ap (λ (n : ℕ). drop n weeks) judged.number ∙ here in
-      let next_number : suc (length rosters) ≡ i + 1 = omega (arith, judged.number) in
       let more = plan-more rosters roster week (drop (i + 1) weeks) weeks at in
       let next = planned (problem_of week) (before weeks rosters) (set_of roster) in
       let sum = sum_by-append (λ one. penalty one.week one.roster) (plan_from weeks rosters) (next ∷ []) in
@@ -66,10 +63,6 @@ module _ (weeks : List InstanceTables) (i : ℕ) (rosters : List RosterTables) (
       let costs = ap plan_cost more in
       record {
         number = length-append rosters (roster ∷ []) ∙ ap (λ (n : ℕ). n + 1) judged.number;
-        shapes =
-            subst (λ (n : ℕ). HaveShapes (take n weeks) (rosters ++ roster ∷ [])) next_number
-            (shapes-more weeks rosters roster week (drop (i + 1) weeks) at
-            (subst (λ (n : ℕ). HaveShapes (take n weeks) rosters) (sym judged.number) judged.shapes) shape);
         keep =
             subst (AllByRecursion (λ one. KeepsHardRules one.week one.roster)) (sym more)
             (AllByRecursion-append (λ one. KeepsHardRules one.week one.roster) (plan_from weeks rosters) (next ∷ []) judged.keep

@@ -1,8 +1,8 @@
 -- Files of weeks that keep their places.
-use Rattle.std.proofs.Common.{◌≡◌, ℕ, ap, sym, ◌∙◌, List, length, map, get_or}
+use Rattle.std.proofs.Common.{◌≡◌, ℕ, ap, sym, ◌∙◌, List, map, get_or}
 use Rattle.std.specs.Prelude.{Bool, is_some}
 use Rattle.std.proofs.Math.ListN.{set}
-use Rattle.std.proofs.lemmas.List.{length-map, map-set, set-get_or}
+use Rattle.std.proofs.lemmas.List.{map-set, set-get_or}
 use Rattle.rota_bound_run.specs.PeriodFiles.{KeepWeeks}
 use Rattle.rota_bound_run.specs.declared.files.WeekFiles.{WeekFiles}
 
@@ -10,10 +10,6 @@ module _ {S : Type 0} where
   -- the week has held cells
   abbrev has_fix : WeekFiles S → Bool
   has_fix week = is_some week.fix
-
-  -- there are as many weeks as before
-  pub kept-length : (olds news : List (WeekFiles S)) → KeepWeeks olds news → length news ≡ length olds
-  kept-length olds news kept = sym (length-map news has_fix) ∙ ap length kept ∙ length-map olds has_fix
 
   -- one more week is read, which keeps its file of held cells
   pub keeps-more : (olds now : List (WeekFiles S)) (i : ℕ) (old new : WeekFiles S) → KeepWeeks olds now → old ≡ get_or now i old →

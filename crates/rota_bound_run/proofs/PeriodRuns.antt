@@ -1,40 +1,33 @@
 -- Runs for several weeks: the step at which a run stops, and the files that it does not touch.
-use Rattle.std.proofs.Common.{◌≡◌, ℕ, ◌<◌, refl, ap, sym, ◌∙◌, subst, arith, List, [], ◌∷◌, ◌++◌, ◌==◌, length, map, take, drop, Result, Ok, Err}
-use Rattle.std.specs.Prelude.{Bool, IsErrAnd, Option, Some, None, slice_get}
+use Rattle.std.proofs.Common.{◌≡◌, ℕ, ◌<◌, refl, ap, sym, ◌∙◌, subst, arith, List, [], ◌∷◌, ◌++◌, ◌==◌, length, map, Result, Ok, Err}
+use Rattle.std.specs.Prelude.{Bool, Option, Some, None, slice_get}
 use Rattle.std.specs.Prelude.{false, true}
 use Rattle.std.proofs.lemmas.Bool.Decides.{nat_tests}
-use Rattle.std.proofs.lemmas.List.{append-nil, drop_all, take_all}
 use Rattle.rota_core.specs.InstanceTables.{InstanceTables, problem_of}
 use Rattle.rota_core.specs.RosterTables.{RosterTables, set_of}
 use Rattle.rota_core.specs.ScenarioTables.{ScenarioTables}
+use Rattle.rota_core.specs.declared.certificate.Certificate.{Certificate}
 use Rattle.byte_ports.specs.declared.ports.Source.{Ghosts}
 use Rattle.rota_certificate.specs.Plans.{Pasts}
 use Rattle.rota_certificate_read.specs.FactsLayout.{GivenTables}
 use Rattle.rota_pb.specs.PeriodFaults.{fault_in_week}
 use Rattle.rota_pb.specs.RunPorts.{Reader, reader_of}
-use Rattle.rota_pb.specs.Steps.{EndsInTurn, Step, ◌>>=◌, check, stopped, went_on}
+use Rattle.rota_pb.specs.Steps.{◌>>=◌, check, stopped, went_on}
 use Rattle.rota_pb.specs.declared.fault.Fault.{Fault}
 use Rattle.rota_pb.specs.declared.period_fault.PeriodFault.{PeriodFault}
-use Rattle.rota_pb.specs.declared.period_fault.PeriodFault.TheVariants.{Run}
-use Rattle.rota_pb.proofs.Steps.{is_fault}
 use Rattle.rota_bound_run.specs.CertificateRead.{read_proof}
 use Rattle.rota_bound_run.specs.Judging.{history_before, judge_week}
-use Rattle.rota_bound_run.specs.PeriodFiles.{KeepWeeks, each_of, reader_if, week_readers}
+use Rattle.rota_bound_run.specs.PeriodFiles.{OptionalReader, each_of, reader_if, week_readers}
 use Rattle.rota_bound_run.specs.PeriodRead.{read_given, read_next, read_weeks}
-use Rattle.rota_bound_run.specs.PeriodSteps.{PeriodStep, for_all, for_week}
+use Rattle.rota_bound_run.specs.PeriodSteps.{PeriodStep, for_week}
 use Rattle.rota_bound_run.specs.PlanJudged.{for_some, judge_all, judge_next, judge_plan, meet_given}
+use Rattle.rota_bound_run.specs.declared.answer.PeriodAnswer.{PeriodAnswer}
+use Rattle.rota_bound_run.specs.declared.files.PeriodFiles.{PeriodFiles}
 use Rattle.rota_bound_run.specs.declared.files.WeekFiles.{WeekFiles}
 use Rattle.rota_bound_run.specs.declared.judged.Judged.{Judged}
 use Rattle.rota_bound_run.specs.declared.ward.Ward.{Ward}
 use Rattle.rota_bound_run.proofs.InTurn.{none-touched}
-use Rattle.rota_bound_run.proofs.KeptFiles.{kept-length}
 use Rattle.rota_bound_run.proofs.WeekSteps.{reads-no-week}
-
--- the run ends with the fault of a step for all weeks
-pub stopped_for_all : {A B : Type 0} (step : Step A) {next : A → PeriodStep B} (result : Result B PeriodFault) (fault : Fault) →
-    IsErrAnd result (λ e. e ≡ Run fault) → step.ends (Err fault) → ((found : A) → (next found).untouched) → EndsInTurn (for_all step)
-    next result
-stopped_for_all step result fault is ends untouched = stopped (Run fault) (is_fault result (Run fault) is) (fault, refl, ends) untouched
 
 module _ {S : Type 0} (port : Ghosts S) where
   pub gives-none : (s : ScenarioTables) (weeks : ℕ) (file : Option S) → (read_given s weeks (reader_if port file file)).untouched
@@ -127,55 +120,58 @@ module _ {S : Type 0} (port : Ghosts S) (weeks : List InstanceTables) (rosters :
         ends,
       ) (λ roster. tt))
 
--- a slice that was lent as a whole is the whole list afterwards
-pub settled : {X : Type 0} (olds new : List X) (len : ℕ) → length new ≡ length olds → length olds ≡ len → take len (new ++ drop
-    (length new) olds) ≡ new
-settled olds new len same is =
-    ap (λ (rest : _). take len (new ++ rest)) (drop_all (length new) olds (omega (arith, same))) ∙
-    ap (λ (xs : _). take len xs) (append-nil new) ∙ take_all len new (omega (arith, same, is))
+pub is-zero : (n len : ℕ) (empty : Bool) → len ≡ n → empty ≡ (len == 0) → empty ≡ true → n ≡ 0
+is-zero n len empty same is full = grind (arith, nat_tests)
 
-pub is-zero : (n : ℕ) (empty : Bool) → empty ≡ (n == 0) → empty ≡ true → n ≡ 0
-is-zero n empty is full = grind (arith, nat_tests)
+pub not-zero : (n len : ℕ) (empty : Bool) → len ≡ n → empty ≡ (len == 0) → empty ≡ false → 0 < n
+not-zero n len empty same is full = grind (arith, nat_tests)
 
-pub not-zero : (n : ℕ) (empty : Bool) → empty ≡ (n == 0) → empty ≡ false → 0 < n
-not-zero n empty is full = grind (arith, nat_tests)
+-- ---- the number of weeks, counted in the code
 
--- ---- files that were lent as slices
+-- the given facts are for all weeks
+pub given-for-all : {n m : ℕ} (s : ScenarioTables) (file : OptionalReader) (result : Result GivenTables Fault) → n ≡ m →
+    (read_given s n file).ends result → (read_given s m file).ends result
+given-for-all s file result same ends = subst (λ (n : ℕ). (read_given s n file).ends result) same ends
 
-module _ {S : Type 0} (port : Ghosts S) where
-  -- the weeks were read from these files, which kept their places
-  abbrev WeeksRead : Bool → Ward → Result (List InstanceTables) PeriodFault → List (WeekFiles S) → List (WeekFiles S) → Type 0
-  WeeksRead early ward result olds news = KeepWeeks olds news × (read_weeks early ward (each_of (week_readers port) olds news)).ends result
+-- the certificate is for all weeks
+pub proof-for-all : {n m : ℕ} (s : ScenarioTables) (file : OptionalReader) (result : Result Certificate Fault) → n ≡ m →
+    (read_proof s n file).ends result → (read_proof s m file).ends result
+proof-for-all s file result same ends = subst (λ (n : ℕ). (read_proof s n file).ends result) same ends
 
-  -- the weeks were read from the files of a slice
-  pub weeks-back : (early : Bool) (ward : Ward) (olds slice new : List (WeekFiles S)) (len : ℕ) → slice ≡ olds → length slice ≡ len →
-      KeepWeeks slice new → (result : Result (List InstanceTables) PeriodFault) →
-      (read_weeks early ward (each_of (week_readers port) slice new)).ends result →
-      WeeksRead early ward result olds (take len (new ++ drop (length new) olds))
-  weeks-back early ward olds slice new len same long kept result ends =
-      let lengths : length new ≡ length olds = kept-length slice new kept ∙ ap length same in
-      subst (λ (now : List (WeekFiles S)). WeeksRead early ward result olds now)
-      (sym (settled olds new len lengths (sym (ap length same) ∙ long)))
-      (subst (λ (was : List (WeekFiles S)). WeeksRead early ward result was new) same (kept, ends))
+-- ---- the rest of a run that stops: its files and the writer are not touched
 
-  -- the rosters were judged from these files, none of which came or went
-  abbrev RostersJudged : List InstanceTables → GivenTables → Result (Option Judged) PeriodFault → List S → List S → Type 0
-  RostersJudged weeks given result olds news =
-      (length news ≡ length olds) × (judge_plan weeks given (each_of (reader_of port) olds news)).ends result
+module _ {S W : Type 0} (port : Ghosts S) (files : PeriodFiles S) (out : W) where
+  abbrev AnswerLeft : Type 0
+  AnswerLeft = Unit {0} × (PeriodAnswer → out ≡ out)
 
-  -- the rosters were judged from the files of a slice
-  pub rosters-back : (weeks : List InstanceTables) (given : GivenTables) (olds slice new : List S) (len : ℕ) → slice ≡ olds →
-      length slice ≡ len → length new ≡ length slice → (result : Result (Option Judged) PeriodFault) →
-      (judge_plan weeks given (each_of (reader_of port) slice new)).ends result →
-      RostersJudged weeks given result olds (take len (new ++ drop (length new) olds))
-  rosters-back weeks given olds slice new len same long count result ends =
-      let lengths : length new ≡ length olds = count ∙ ap length same in
-      subst (λ (now : List S). RostersJudged weeks given result olds now)
-      (sym (settled olds new len lengths (sym (ap length same) ∙ long)))
-      (subst (λ (was : List S). RostersJudged weeks given result was new) same (count, ends))
+  abbrev RostersLeft : List InstanceTables → GivenTables → Type 0
+  RostersLeft weeks given =
+      (judge_plan weeks given (each_of (reader_of port) files.rosters.items files.rosters.items)).untouched × (Option Judged → AnswerLeft)
 
--- a slice that is as before
-pub slice-back : {X : Type 0} (olds slice new now : List X) (len : ℕ) → slice ≡ olds → length slice ≡ len → new ≡ slice →
-    now ≡ take len (new ++ drop (length new) olds) → now ≡ olds
-slice-back olds slice new now len same long as_before is =
-    is ∙ settled olds new len (ap length as_before ∙ ap length same) (sym (ap length same) ∙ long) ∙ as_before ∙ same
+  abbrev ProofLeft : ScenarioTables → List InstanceTables → GivenTables → Type 0
+  ProofLeft s weeks given =
+      (read_proof s (length weeks) (reader_if port files.proof files.proof)).untouched × (Certificate → RostersLeft weeks given)
+
+  abbrev GivenLeft : ScenarioTables → List InstanceTables → Type 0
+  GivenLeft s weeks =
+      (read_given s (length weeks) (reader_if port files.given files.given)).untouched × ((given : GivenTables) → ProofLeft s weeks given)
+
+  abbrev WeeksLeft : Bool → Ward → Type 0
+  WeeksLeft early ward =
+      (read_weeks early ward (each_of (week_readers port) files.weeks.items files.weeks.items)).untouched ×
+      ((weeks : List InstanceTables) → GivenLeft ward.scenario weeks)
+
+  pub left-answer : Option Judged → AnswerLeft
+  left-answer judged = (tt, λ answer. refl)
+
+  pub left-rosters : (weeks : List InstanceTables) (given : GivenTables) → Certificate → RostersLeft weeks given
+  left-rosters weeks given certificate = (judges-none port weeks given files.rosters.items, left-answer)
+
+  pub left-proof : (s : ScenarioTables) (weeks : List InstanceTables) (given : GivenTables) → ProofLeft s weeks given
+  left-proof s weeks given = (proves-none port s (length weeks) files.proof, left-rosters weeks given)
+
+  pub left-given : (s : ScenarioTables) (weeks : List InstanceTables) → GivenLeft s weeks
+  left-given s weeks = (gives-none port s (length weeks) files.given, left-proof s weeks)
+
+  pub left-weeks : (early : Bool) (ward : Ward) → WeeksLeft early ward
+  left-weeks early ward = (reads-no-weeks port early ward files.weeks.items, left-given ward.scenario)

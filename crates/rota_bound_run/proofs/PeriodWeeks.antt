@@ -12,7 +12,7 @@ use Rattle.rota_core.specs.Certificates.{AreConditionsFor}
 use Rattle.rota_core.specs.Limits.{max_number}
 use Rattle.rota_core.specs.ScenarioTables.{ScenarioTables, numbers_of}
 use Rattle.rota_certificate_read.specs.CertificateLayout.{IsCertificateOf}
-use Rattle.rota_certificate.specs.PeriodBounds.{AreGivenFor, IsForWeeks, IsPeriod}
+use Rattle.rota_certificate.specs.PeriodBounds.{AreEvidence, AreGivenFor, IsForWeeks, IsPeriod}
 use Rattle.rota_certificate.specs.Periods.{AreOfOneWard, Continue}
 use Rattle.rota_bound_run.specs.WeeksRead.{AreWeeksFrom, IsWeekAt}
 use Rattle.rota_bound_run.specs.declared.ward.Ward.{Ward}
@@ -82,7 +82,7 @@ module _ (early : Bool) (ward : Ward) where
       let few = (first-week first rest are).limits.scenario.weeks.1 in
       record { count = omega (arith, within 0 first rest are, weeks, few); period = continue 0 first rest are }
 
-  pub given-for : (weeks : List InstanceTables) (given : List Condition) → AreWeeksFrom early ward 0 weeks → 0 < length weeks →
+  given-for : (weeks : List InstanceTables) (given : List Condition) → AreWeeksFrom early ward 0 weeks → 0 < length weeks →
       AreConditionsFor (numbers_of ward.scenario) (length weeks) given → length given ≤ max_number → AreGivenFor weeks given
   given-for [] given are some conditions few = absurd (omega (arith, some))
   given-for (first ∷ rest) given are some conditions few = record {
@@ -92,7 +92,16 @@ module _ (early : Bool) (ward : Ward) where
     few = few;
   }
 
-  pub for-weeks : (weeks : List InstanceTables) (certificate : Certificate) → AreWeeksFrom early ward 0 weeks → 0 < length weeks →
+  for-weeks : (weeks : List InstanceTables) (certificate : Certificate) → AreWeeksFrom early ward 0 weeks → 0 < length weeks →
       IsCertificateOf ward.scenario (length weeks) certificate → IsForWeeks weeks certificate
   for-weeks [] certificate are some fits = absurd (omega (arith, some))
   for-weeks (first ∷ rest) certificate are some fits = fits.each first (first-week first rest are).scenario
+
+  pub are-evidence : (weeks : List InstanceTables) (given : List Condition) (certificate : Certificate) (count : ℕ) →
+      AreWeeksFrom early ward 0 weeks → 0 < length weeks → count ≡ length weeks → AreConditionsFor (numbers_of ward.scenario) count given →
+      length given ≤ max_number → IsCertificateOf ward.scenario count certificate → AreEvidence weeks given certificate
+  are-evidence weeks given certificate count are some same conditions few fits = record {
+    period = is-period weeks are;
+    given_for = given-for weeks given are some (rw same at conditions) few;
+    is_for = for-weeks weeks certificate are some (rw same at fits);
+  }

@@ -1,11 +1,10 @@
 -- One more roster of a plan.
-use Rattle.std.proofs.Common.{◌≡◌, ℕ, suc, refl, ap, sym, ◌∙◌, subst, arith, List, [], ◌∷◌, ◌++◌, length, map, take, drop}
+use Rattle.std.proofs.Common.{◌≡◌, ℕ, suc, refl, ap, sym, ◌∙◌, subst, arith, List, [], ◌∷◌, ◌++◌, length, map, drop}
 use Rattle.std.proofs.lemmas.List.{drop-map, drop_all, map-append, length-map}
 use Rattle.rota_core.specs.InstanceTables.{InstanceTables, problem_of}
 use Rattle.rota_core.specs.Problem.{Problem}
 use Rattle.rota_core.specs.Roster.{Roster}
-use Rattle.rota_core.specs.RosterTables.{HasShapeOf, RosterTables, set_of}
-use Rattle.rota_certificate.specs.CountedCharges.{HaveShapes}
+use Rattle.rota_core.specs.RosterTables.{RosterTables, set_of}
 use Rattle.rota_certificate.specs.Plans.{Pasts, Plan, PlannedWeek, after, history_after, plan_after, plan_from, plan_of}
 use Rattle.rota_bound_run.specs.Judging.{history_before, history_left}
 
@@ -86,20 +85,3 @@ module _ (rosters : List RosterTables) (roster : RosterTables) (week : InstanceT
       ap (λ (sets : List Roster). history_before (map problem_of (first ∷ rest)) sets) (map-append set_of rosters (roster ∷ [])) ∙
       history-left-more (problem_of first).past (map problem_of (first ∷ rest)) (map set_of rosters) (set_of roster) (problem_of week)
       (map problem_of later) (problems-at (first ∷ rest) rosters week later is)
-
--- a roster of the shape of the next week
-pub shapes-more : (weeks : List InstanceTables) (rosters : List RosterTables) (roster : RosterTables) (week : InstanceTables) (later :
-    List InstanceTables) →
-    drop (length rosters) weeks ≡ (week ∷ later) → HaveShapes (take (length rosters) weeks) rosters → HasShapeOf (problem_of week) roster
-    →
-    HaveShapes (take (suc (length rosters)) weeks) (rosters ++ roster ∷ [])
-shapes-more [] [] roster week later is shapes shape = absurd cc
-shapes-more [] (r ∷ rosters) roster week later is shapes shape = absurd cc
-shapes-more (w ∷ weeks) [] roster week later is shapes shape =
-    let same : w ≡ week = cc in
-    (subst (λ (one : InstanceTables). HasShapeOf (problem_of one) roster) (sym same) shape, tt)
-shapes-more (w ∷ weeks) (r ∷ rosters) roster week later is shapes shape = (
-  shapes.0,
-  shapes-more weeks rosters roster week later is
-      shapes.1 shape,
-)

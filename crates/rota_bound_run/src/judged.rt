@@ -28,17 +28,17 @@ pub struct Judged {
 // The rosters of the files, judged in the order of the weeks. The weeks are as before.
 fn judge_all<S: Source>(
     alloc: Global,
-    weeks: &mut [Instance],
-    files: &mut [S],
+    weeks: &mut Vec<Instance>,
+    files: &mut Vec<S>,
 ) -> Result<Judged, PeriodFault>
-    requires period { IsPeriod weeks.old }
-    requires count { length files.old ≡ length weeks.old }
-    requires some { 0 < length weeks.old }
-    ensures reads { EndsAs (λ judged. judged.rosters.items) (judge_all weeks.old (each_of (reader_of S.Source) files.old files.new)).ends result }
-    ensures planned { IfOk result (λ judged. IsPlanned weeks.old judged.rosters.items) }
-    ensures penalty { IfOk result (λ judged. judged.penalty ≡ plan_cost (plan_from weeks.old judged.rosters.items)) }
-    ensures same { weeks.new ≡ weeks.old }
-    ensures count { length files.new ≡ length files.old }
+    requires period { IsPeriod weeks.old.items }
+    requires count { length files.old.items ≡ length weeks.old.items }
+    requires some { 0 < length weeks.old.items }
+    ensures reads { EndsAs (λ judged. judged.rosters.items) (judge_all weeks.old.items (each_of (reader_of S.Source) files.old.items files.new.items)).ends result }
+    ensures planned { IfOk result (λ judged. IsPlanned weeks.old.items judged.rosters.items) }
+    ensures penalty { IfOk result (λ judged. judged.penalty ≡ plan_cost (plan_from weeks.old.items judged.rosters.items)) }
+    ensures same { weeks.new.items ≡ weeks.old.items }
+    ensures count { length files.new.items ≡ length files.old.items }
 {
     let count = weeks.len();
     let rosters = Vec::with_capacity(alloc, count)?;
@@ -78,19 +78,19 @@ fn meet_given(weeks: &[Instance], given: &GivenFacts, judged: Judged) -> Result<
 /// weeks are as before.
 pub(crate) fn judge_plan<S: Source>(
     alloc: Global,
-    weeks: &mut [Instance],
+    weeks: &mut Vec<Instance>,
     given: &GivenFacts,
-    files: &mut [S],
+    files: &mut Vec<S>,
 ) -> Result<Option<Judged>, PeriodFault>
-    requires period { IsPeriod weeks.old }
-    requires given { AreGivenFor weeks.old given.now.conditions.items }
+    requires period { IsPeriod weeks.old.items }
+    requires given { AreGivenFor weeks.old.items given.now.conditions.items }
     requires lines { length given.now.lines.items ≡ length given.now.conditions.items }
-    requires rosters { AreRosters (length weeks.old) files.old }
-    requires some { 0 < length weeks.old }
-    ensures reads { (judge_plan weeks.old (given_of given.now) (each_of (reader_of S.Source) files.old files.new)).ends result }
-    ensures judged { IfOk result (λ found. IfSome found (IsJudged weeks.old given.now.conditions.items)) }
-    ensures same { weeks.new ≡ weeks.old }
-    ensures count { length files.new ≡ length files.old }
+    requires rosters { AreRosters (length weeks.old.items) files.old.items }
+    requires some { 0 < length weeks.old.items }
+    ensures reads { (judge_plan weeks.old.items (given_of given.now) (each_of (reader_of S.Source) files.old.items files.new.items)).ends result }
+    ensures judged { IfOk result (λ found. IfSome found (IsJudged weeks.old.items given.now.conditions.items)) }
+    ensures same { weeks.new.items ≡ weeks.old.items }
+    ensures count { length files.new.items ≡ length files.old.items }
 {
     if files.is_empty() {
         return Ok(None);

@@ -54,7 +54,6 @@ pub(crate) fn judge_week<S: Source>(
         EndsAs (λ judged. judged.roster) (judge_week week.old history (reader_of S.Source file.old file.new)).ends result }
     ensures judged { (history : Pasts) → ArePastsIn (problem_of week.old).nurses history pasts.items →
         IfOk result (λ judged. IsJudgedWeek (after (problem_of week.old) history) judged.roster judged) }
-    ensures shape { IfOk result (λ judged. HasShapeOf (problem_of week.old) judged.roster) }
     ensures same { week.new ≡ week.old }
 {
     if !are_pasts(week.shifts(), &pasts) {

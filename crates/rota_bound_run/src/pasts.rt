@@ -4,7 +4,7 @@ ghost use Rattle.rota_core.specs.Defaults.{no_past};
 ghost use Rattle.rota_core.specs.HardRules.{KeepsHardRules};
 ghost use Rattle.rota_core.specs.InstanceTables.{problem_of};
 ghost use Rattle.rota_core.specs.Pasts.{ArePasts, with_pasts};
-ghost use Rattle.rota_core.specs.RosterTables.{HasShapeOf, set_of};
+ghost use Rattle.rota_core.specs.RosterTables.{set_of};
 ghost use Rattle.rota_core.specs.WeekTables.{IsPast};
 ghost use Rattle.rota_certificate.specs.Plans.{history_after};
 ghost use Rattle.rota_bound_run.specs.JudgedWeeks.{ArePastsIn};
@@ -55,7 +55,6 @@ pub(crate) fn pasts_before(alloc: Global, week: &Instance) -> Result<Vec<Past>, 
 
 /// The pasts of the nurses after the week with this roster, if these are the pasts before it.
 pub(crate) fn pasts_after(week: &Instance, roster: &Roster, pasts: Vec<Past>) -> Vec<Past>
-    requires shape { HasShapeOf (problem_of week.now) roster.now }
     requires pasts { ArePasts (problem_of week.now).numbers pasts.items }
     requires keeps { KeepsHardRules (problem_of (with_pasts week.now pasts.items)) (set_of roster.now) }
     ensures { let before = problem_of (with_pasts week.now pasts.items) in

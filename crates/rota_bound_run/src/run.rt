@@ -1,9 +1,12 @@
 //! The run that proves how good the plans of some weeks can be.
 ghost use Rattle.rota_pb.specs.RunPorts.{writer_of};
+ghost use Rattle.rota_pb.specs.Steps.{send};
+ghost use Rattle.rota_bound_run.specs.BoundText.{bound_text};
 ghost use Rattle.rota_bound_run.specs.Bounding.{AnswersFrom};
 ghost use Rattle.rota_bound_run.specs.PeriodFiles.{AreFiles};
+ghost use Rattle.rota_bound_run.specs.PeriodSteps.{for_all};
 
-use crate::answer::answer_for;
+use crate::answer::{PeriodAnswer, answer_for};
 use crate::bound_text::write_answer;
 use crate::files::{PeriodFiles, Question};
 use crate::given_file::read_given;
@@ -14,6 +17,13 @@ use crate::weeks::read_weeks;
 use byte_ports::{Source, Target};
 use rota_pb::PeriodFault;
 use std::alloc::Global;
+
+// Sends the text of the answer, which is about all weeks.
+fn send_answer<W: Target>(answer: &PeriodAnswer, out: &mut W) -> Result<(), PeriodFault>
+    ensures { (for_all (send (writer_of W.Target out.old out.new) (bound_text answer.now))).ends result }
+{
+    Ok(write_answer(answer, out)?)
+}
 
 /// Reads the files of some weeks, and writes what the certificate proves about their plans: a lower bound of the
 /// penalty of all plans that keep H1 to H5 and meet the given facts; or, with `question.minimums`, whether no plan
@@ -52,5 +62,5 @@ pub fn run_bound<S: Source, W: Target>(
         question.minimums,
         &judged,
     )?;
-    Ok(write_answer(&answer, out)?)
+    send_answer(&answer, out)
 }

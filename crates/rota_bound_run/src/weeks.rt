@@ -75,13 +75,13 @@ pub(crate) fn read_weeks<S: Source>(
     alloc: Global,
     early: bool,
     ward: &Ward,
-    files: &mut [WeekFiles<S>],
+    files: &mut Vec<WeekFiles<S>>,
 ) -> Result<Vec<Instance>, PeriodFault>
     requires { IsWard ward.now }
-    ensures reads { EndsAs (λ weeks. weeks.items) (read_weeks early ward.now (each_of (week_readers S.Source) files.old files.new)).ends result }
+    ensures reads { EndsAs (λ weeks. weeks.items) (read_weeks early ward.now (each_of (week_readers S.Source) files.old.items files.new.items)).ends result }
     ensures weeks { IfOk result (λ weeks. AreWeeksFrom early ward.now 0 weeks.items) }
-    ensures count { IfOk result (λ weeks. length weeks.items ≡ length files.old) }
-    ensures kept { KeepWeeks files.old files.new }
+    ensures count { IfOk result (λ weeks. length weeks.items ≡ length files.old.items) }
+    ensures kept { KeepWeeks files.old.items files.new.items }
 {
     let mut weeks = Vec::new(alloc);
     let count = files.len();

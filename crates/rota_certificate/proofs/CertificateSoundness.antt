@@ -2,7 +2,7 @@
 use Rattle.std.proofs.Common.{◌≡◌, ℕ, zero, suc, ◌*◌, ◌<◌, ◌≤◌, sym, refl, subst, arith, List, [], ◌∷◌, length, map, reverse, slice_index_or}
 use Rattle.std.specs.List.{AllByRecursion}
 use Rattle.rota_core.specs.Certificates.{IsFactFor}
-use Rattle.rota_core.specs.PriceTables.{PriceTables, prices_of}
+use Rattle.rota_core.specs.PriceTables.{IsForWeek, PriceTables, prices_of}
 use Rattle.rota_core.specs.Prices.{ArePrices}
 use Rattle.rota_core.specs.Problem.{Problem}
 use Rattle.rota_core.specs.Roster.{Roster}
@@ -26,16 +26,17 @@ use Rattle.rota_certificate.proofs.TreeSoundness.{AllFacts, tree-sound}
 
 -- ---- lists
 
-each : (list : List PriceTables) → AllByRecursion (λ t. ArePrices (prices_of t)) list → AllByRecursion ArePrices (map prices_of list)
-each [] within = tt
-each (first ∷ list) within = (within.0, each list within.1)
+each : (problem : Problem) (list : List PriceTables) → AllByRecursion (IsForWeek problem) list → AllByRecursion ArePrices (map prices_of list)
+each problem [] fit = tt
+each problem (first ∷ list) fit = (fit.0.within, each problem list fit.1)
 
 -- the tables of a leaf are within their limit
-tables-at : (lists : List (List PriceTables)) (i : ℕ) → AllByRecursion (AllByRecursion (λ t. ArePrices (prices_of t))) lists →
-    AllByRecursion ArePrices (map prices_of (slice_index_or lists i []))
-tables-at [] i within = tt
-tables-at (first ∷ lists) zero within = each first within.0
-tables-at (first ∷ lists) (suc i) within = tables-at lists i within.1
+tables-at : {X : Type 0} (f : X → List PriceTables) (problem : Problem) (n : ℕ) (lists : List X) (i : ℕ) →
+    AllByRecursion (λ x. (length (f x) ≡ n) × AllByRecursion (IsForWeek problem) (f x)) lists →
+    AllByRecursion ArePrices (map prices_of (slice_index_or (map f lists) i []))
+tables-at f problem n [] i fit = tt
+tables-at f problem n (first ∷ lists) zero fit = each problem (f first) fit.0.1
+tables-at f problem n (first ∷ lists) (suc i) fit = tables-at f problem n lists i fit.1
 
 -- ---- the bound
 
@@ -69,7 +70,7 @@ module _ (first : Problem) (later : List Problem) (given : Case) (certificate : 
       leaf_bound unit problems (case_of path given) (prices_of_leaf certificate leaf) surcharges ≤ unit * plan_cost plan
   leaf-sound unit surcharges path leaf facts is_in =
       leaf-within first later rosters evidence.period feasible.keep unit (length problems) (case_of path given) (prices_of_leaf certificate leaf)
-      (tables-at (map (λ list. list.items) certificate.prices.items) leaf.prices evidence.tables)
+      (tables-at (λ list. list.items) first (length problems) certificate.prices.items leaf.prices evidence.is_for.prices)
       (all-append IsForPlan (reverse path) given (all-reverse IsForPlan path facts) evidence.given_for)
       (all-append (Meets plan) (reverse path) given (all-reverse (Meets plan) path is_in) feasible.meet) surcharges
 

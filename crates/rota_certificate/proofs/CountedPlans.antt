@@ -1,25 +1,26 @@
 -- The weeks of a plan one after another, as its charges are counted.
 use Rattle.std.proofs.Common.{◌≡◌, ℕ, zero, suc, ◌+◌, ◌<◌, ◌≤◌, refl, ap, sym, ◌∙◌, subst, arith, List, [], ◌∷◌, ◌==◌, length, map, drop, slice_index_or}
-use Rattle.std.specs.Prelude.{IfSome, Option, Some, None, false, nat_le, slice_get}
-use Rattle.std.specs.Option.{ForSome, option_map_or}
+use Rattle.std.specs.Prelude.{Option, Some, None, false, nat_le, slice_get}
+use Rattle.std.specs.Option.{option_map_or}
 use Rattle.std.specs.List.{AllByRecursion, sum_by}
 use Rattle.std.proofs.lemmas.List.{drop_all, drop_more, get_or-map, length-map}
 use Rattle.std.proofs.lemmas.List.Sums.{sum_by-cons}
 use Rattle.rota_core.specs.HardRules.{KeepsHardRules, nurses_at}
-use Rattle.rota_core.specs.InstanceTables.{InstanceTables, IsInstance, problem_of}
+use Rattle.rota_core.specs.InstanceTables.{InstanceTables, problem_of}
 use Rattle.rota_core.specs.Problem.{Problem}
 use Rattle.rota_core.specs.Roster.{Roster}
-use Rattle.rota_core.specs.RosterTables.{HasShapeOf, RosterTables, set_of}
+use Rattle.rota_core.specs.RosterTables.{RosterTables, set_of}
 use Rattle.rota_core.specs.Sizes.{Numbers}
 use Rattle.rota_core.specs.declared.certificate.ChargeKind.{ChargeKind}
+use Rattle.rota_core.specs.WeekTables.{IsPast}
 use Rattle.rota_core.specs.declared.values.Past.{Past}
-use Rattle.rota_certificate.specs.CountedCharges.{HaveShapes, numbers_in}
+use Rattle.rota_certificate.specs.CountedCharges.{numbers_in}
 use Rattle.rota_certificate.specs.Plans.{Pasts, KeepRules, Plan, PlannedWeek, after, history_after, plan_after, plan_from, plan_of}
 use Rattle.rota_certificate.specs.Periods.{ArePeriod, Continue}
 use Rattle.rota_certificate.specs.Facts.{charges_in_week, charges_of_all, charges_of_nurse, has_choice, nurses_of, week_passes}
 use Rattle.rota_certificate.specs.Nearness.{IsNear}
 use Rattle.rota_certificate.proofs.Sums.{sum-none}
-use Rattle.rota_certificate.proofs.Tables.{history-near}
+use Rattle.rota_certificate.proofs.Tables.{near-past}
 
 -- ---- week after week
 
@@ -71,19 +72,6 @@ module _ (kind : ChargeKind) (weeks : List Problem) (rosters : List Roster) (n i
 
 -- ---- weeks and rosters of tables
 
-pub shapes-count : (weeks : List InstanceTables) (rosters : List RosterTables) → HaveShapes weeks rosters → length rosters ≡ length weeks
-shapes-count [] [] shapes = refl
-shapes-count [] (roster ∷ rosters) shapes = absurd shapes
-shapes-count (week ∷ weeks) [] shapes = absurd shapes
-shapes-count (week ∷ weeks) (roster ∷ rosters) shapes = omega (arith, shapes-count weeks rosters shapes.1)
-
-pub shape-at : (weeks : List InstanceTables) (rosters : List RosterTables) (i : ℕ) (d : InstanceTables) (e : RosterTables) → HaveShapes weeks rosters →
-    i < length weeks → HasShapeOf (problem_of (slice_index_or weeks i d)) (slice_index_or rosters i e)
-shape-at [] rosters i d e shapes inside = absurd (omega (arith, inside))
-shape-at (week ∷ weeks) [] i d e shapes inside = absurd shapes
-shape-at (week ∷ weeks) (roster ∷ rosters) zero d e shapes inside = shapes.0
-shape-at (week ∷ weeks) (roster ∷ rosters) (suc i) d e shapes inside = shape-at weeks rosters i d e shapes.1 (omega (arith, inside))
-
 numbers-continue : (first : InstanceTables) (later : List InstanceTables) (i : ℕ) (d : InstanceTables) → Continue (problem_of first) (map problem_of later) →
     i < length (first ∷ later) → (problem_of (slice_index_or (first ∷ later) i d)).numbers ≡ (problem_of first).numbers
 unfolding Continue
@@ -103,24 +91,18 @@ drop-mapped {X} {Y} f xs i d inside =
     drop_more (map f xs) i (f d) (omega (arith, inside, length-map xs f)) ∙
     ap (λ (one : Y). one ∷ drop (i + 1) (map f xs)) (get_or-map f xs i d (f d) inside)
 
-pub nurses-of : (weeks : List InstanceTables) (rosters : List RosterTables) → HaveShapes weeks rosters →
+pub nurses-of : (weeks : List InstanceTables) (rosters : List RosterTables) → length rosters ≡ length weeks →
     nurses_of (plan_from weeks rosters) ≡ (numbers_in weeks).nurses
 unfolding plan_after
-nurses-of [] rosters shapes = refl
-nurses-of (week ∷ weeks) [] shapes = absurd shapes
-nurses-of (week ∷ weeks) (roster ∷ rosters) shapes = refl
+nurses-of [] rosters count = refl
+nurses-of (week ∷ weeks) [] count = absurd (omega (arith, count))
+nurses-of (week ∷ weeks) (roster ∷ rosters) count = refl
 
 -- ---- an element at an index
 
 module _ (weeks : List InstanceTables) (i : ℕ) (one : InstanceTables) (inside : i < length weeks) (is : one ≡ slice_index_or weeks i one) where
   pub numbers-of : ArePeriod (map problem_of weeks) → (problem_of one).numbers ≡ numbers_in weeks
   numbers-of period = ap (λ (week : InstanceTables). (problem_of week).numbers) is ∙ numbers-at weeks i one period inside
-
-  pub shape-of : (rosters : List RosterTables) (roster : RosterTables) → HaveShapes weeks rosters → roster ≡ slice_index_or rosters i roster →
-      HasShapeOf (problem_of one) roster
-  shape-of rosters roster shapes roster_is =
-      ap (λ (r : RosterTables). r.numbers) roster_is ∙ shape-at weeks rosters i one roster shapes inside ∙
-      sym (ap (λ (week : InstanceTables). (problem_of week).numbers) is)
 
 pub drop-of : {X Y : Type 0} (f : X → Y) (xs : List X) (i : ℕ) (one : X) → i < length xs → one ≡ slice_index_or xs i one →
     drop i (map f xs) ≡ (f one ∷ drop (i + 1) (map f xs))
@@ -150,11 +132,11 @@ counts-begin kind (first ∷ later) rosters n one past some is past_is keep =
     (sym (past_is ∙ ap (λ (week : InstanceTables). (problem_of week).past n) is))
     (counts-start kind (problem_of first) (map problem_of later) (map set_of rosters) n keep)
 
-pub near-begin : (weeks : List InstanceTables) (one : InstanceTables) (n : ℕ) (past : Past) → 0 < length weeks → one ≡ slice_index_or weeks 0 one →
-    past ≡ (problem_of one).past n → ArePeriod (map problem_of weeks) → IsInstance one → IsNear (numbers_in weeks).shifts 0 past
-near-begin weeks one n past some is past_is period limits =
+pub near-begin : (weeks : List InstanceTables) (one : InstanceTables) (past : Past) → 0 < length weeks → one ≡ slice_index_or weeks 0 one →
+    ArePeriod (map problem_of weeks) → IsPast (problem_of one).shifts past → IsNear (numbers_in weeks).shifts 0 past
+near-begin weeks one past some is period within =
     near-as (problem_of one).numbers (numbers_in weeks) 0 past (numbers-of weeks 0 one some is period)
-    (subst (λ (p : Past). IsNear (problem_of one).shifts 0 p) (sym past_is) (history-near one limits n))
+    (near-past (problem_of one).shifts past within)
 
 -- without a week there are no charges
 pub none-of-all : (kind : ChargeKind) (weeks : List InstanceTables) (rosters : List RosterTables) → length weeks ≡ 0 →
@@ -170,34 +152,29 @@ pub record IsPlannedAt (plan : Plan) (w : ℕ) (week : Problem) (roster : Roster
   pub is : slice_get plan w ≡ Some (record { week = after week history; roster = roster })
 
 pub planned-after : (history : Pasts) (weeks : List InstanceTables) (rosters : List RosterTables) (w : ℕ) (week : InstanceTables)
-    (roster : RosterTables) → HaveShapes weeks rosters → w < length weeks → week ≡ slice_index_or weeks w week →
+    (roster : RosterTables) → length rosters ≡ length weeks → w < length weeks → week ≡ slice_index_or weeks w week →
     roster ≡ slice_index_or rosters w roster →
     IsPlannedAt (plan_after history (map problem_of weeks) (map set_of rosters)) w (problem_of week) (set_of roster)
 unfolding plan_after
-planned-after history [] rosters w week roster shapes inside is roster_is = absurd (omega (arith, inside))
-planned-after history (first ∷ weeks) [] w week roster shapes inside is roster_is = absurd shapes
-planned-after history (first ∷ weeks) (one ∷ rosters) zero week roster shapes inside is roster_is = record {
+planned-after history [] rosters w week roster count inside is roster_is = absurd (omega (arith, inside))
+planned-after history (first ∷ weeks) [] w week roster count inside is roster_is = absurd (omega (arith, count))
+planned-after history (first ∷ weeks) (one ∷ rosters) zero week roster count inside is roster_is = record {
   history = history;
   is =
       ap (λ (w : InstanceTables). Some (record { week = after (problem_of w) history; roster = set_of one })) (sym is) ∙
       ap (λ (r : RosterTables). Some (record { week = after (problem_of week) history; roster = set_of r })) (sym roster_is);
 }
-planned-after history (first ∷ weeks) (one ∷ rosters) (suc w) week roster shapes inside is roster_is =
+planned-after history (first ∷ weeks) (one ∷ rosters) (suc w) week roster count inside is roster_is =
     let now = after (problem_of first) history in
-    let rest = planned-after (history_after now (set_of one)) weeks rosters w week roster shapes.1 (omega (arith, inside)) is roster_is in
+    let rest = planned-after (history_after now (set_of one)) weeks rosters w week roster (omega (arith, count)) (omega (arith, inside)) is roster_is in
     record { history = rest.history; is = rest.is }
 
 pub planned-at : (weeks : List InstanceTables) (rosters : List RosterTables) (w : ℕ) (week : InstanceTables) (roster : RosterTables) →
-    HaveShapes weeks rosters → w < length weeks → week ≡ slice_index_or weeks w week → roster ≡ slice_index_or rosters w roster →
+    length rosters ≡ length weeks → w < length weeks → week ≡ slice_index_or weeks w week → roster ≡ slice_index_or rosters w roster →
     IsPlannedAt (plan_from weeks rosters) w (problem_of week) (set_of roster)
-planned-at [] rosters w week roster shapes inside is roster_is = absurd (omega (arith, inside))
-planned-at (first ∷ later) rosters w week roster shapes inside is roster_is =
-    planned-after (problem_of first).past (first ∷ later) rosters w week roster shapes inside is roster_is
-
--- a shift type, if any, is inside
-pub chosen-in : (choice : Option ℕ) (shifts : ℕ) → ForSome choice (λ s. s < shifts) → IfSome choice (λ s. s < shifts)
-chosen-in None shifts each = tt
-chosen-in (Some s) shifts each = each s refl
+planned-at [] rosters w week roster count inside is roster_is = absurd (omega (arith, inside))
+planned-at (first ∷ later) rosters w week roster count inside is roster_is =
+    planned-after (problem_of first).past (first ∷ later) rosters w week roster count inside is roster_is
 
 -- the plan and its week agree on a choice of a day
 pub choice-at : (plan : Plan) (w n d : ℕ) (choice : Option ℕ) (week : Problem) (roster : Roster) → IsPlannedAt plan w week roster →

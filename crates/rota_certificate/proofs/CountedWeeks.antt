@@ -20,7 +20,7 @@ use Rattle.rota_certificate.specs.NurseBounds.{LeafWeek, Terms}
 use Rattle.rota_certificate.specs.Plans.{Pasts, after, history_after}
 use Rattle.rota_certificate.proofs.Choices.{goes}
 use Rattle.rota_certificate.proofs.DaySteps.{Chooses, Follows, chosen-first, over-same, over_on, shifts-same, shifts_on}
-use Rattle.rota_certificate.proofs.Sums.{sum-same, sum-zero}
+use Rattle.rota_certificate.proofs.Sums.{sum_below-same, sum_below-zero}
 use Rattle.rota_certificate.proofs.WeekDays.{follows-end, follows-start, over-are, shifts-are}
 
 -- ---- the days of a week
@@ -82,13 +82,13 @@ module _ (week : Problem) (roster : Roster) (n : ℕ) (keeps : KeepsHardRules we
 
   shift_runs-counted : runs_on ShiftRuns week roster n start DAYS ≡ charges_in_week ShiftRuns week roster n
   shift_runs-counted =
-      sum-same DAYS _ (shifts_on week no_prices roster n)
+      sum_below-same DAYS _ (shifts_on week no_prices roster n)
       (λ d d_in. shifts-same week no_prices roster n d (past_at d) (choice_on week roster n d) (follows-at d (omega arith)) (chooses-at d d_in)) ∙
       shifts-are week no_prices roster n
 
   work_days-counted : runs_on WorkDays week roster n start DAYS ≡ charges_in_week WorkDays week roster n
   work_days-counted =
-      sum-same DAYS _ (over_on week no_prices roster n)
+      sum_below-same DAYS _ (over_on week no_prices roster n)
       (λ d d_in. over-same week no_prices roster n d (past_at d) (choice_on week roster n d) (follows-at d (omega arith)) (chooses-at d d_in)) ∙
       over-are week no_prices roster n
 
@@ -109,8 +109,8 @@ module _ (week : Problem) (roster : Roster) (n : ℕ) (keeps : KeepsHardRules we
       runs_on kind week roster n start DAYS + total_charges kind week n start (past_at DAYS) ≡ charges_in_week kind week roster n
   week-counted ShiftRuns = omega (arith, shift_runs-counted)
   week-counted WorkDays = omega (arith, work_days-counted)
-  week-counted Assignments = omega (arith, assignments-counted, sum-zero DAYS (λ d. run_charges Assignments week n (past_at d) (choice_on week roster n d)) (λ d d_in. refl))
-  week-counted Weekends = omega (arith, weekends-counted, sum-zero DAYS (λ d. run_charges Weekends week n (past_at d) (choice_on week roster n d)) (λ d d_in. refl))
+  week-counted Assignments = omega (arith, assignments-counted, sum_below-zero DAYS (λ d. run_charges Assignments week n (past_at d) (choice_on week roster n d)) (λ d d_in. refl))
+  week-counted Weekends = omega (arith, weekends-counted, sum_below-zero DAYS (λ d. run_charges Weekends week n (past_at d) (choice_on week roster n d)) (λ d d_in. refl))
 
 -- the same, given only this nurse's part of the history
 pub after-counted : (week : Problem) (roster : Roster) (n : ℕ) (past : Past) (history : Pasts) → history n ≡ past →

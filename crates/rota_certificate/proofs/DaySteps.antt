@@ -23,7 +23,7 @@ use Rattle.rota_certificate.specs.DayCharges.{shift_charges, under_charge, weeke
 use Rattle.rota_certificate.specs.NurseBounds.{day_rebate, may_be_off}
 use Rattle.rota_core.specs.Prices.{Prices, max_price}
 use Rattle.rota_certificate.proofs.FirstBelow.{first-chosen}
-use Rattle.rota_certificate.proofs.Sums.{sum-same}
+use Rattle.rota_certificate.proofs.Sums.{sum_below-same}
 
 charged : (has : Bool) (run : ℕ) (limits : Span) →
     cond (nat_lt limits.max (cond has (run + 1) 0)) 1 0 + cond (not has && nat_le 1 run) (limits.min - run) 0 ≡ run_charge run has limits
@@ -40,9 +40,9 @@ same_under : {run other : ℕ} {works also : Bool} (limits : Span) → run ≡ o
 same_under {run} {other} {works} {also} limits e f = ap (λ r. under_charge r works limits) e ∙ ap (λ b. under_charge other b limits) f
 
 same_weekend : (problem : Problem) (n d : ℕ) {saturday other sunday also : Bool} → saturday ≡ other → sunday ≡ also →
-    weekend_charge problem n d saturday sunday ≡ weekend_charge problem n d other also
+    weekend_charge (problem.contract n) d saturday sunday ≡ weekend_charge (problem.contract n) d other also
 same_weekend problem n d {saturday} {other} {sunday} {also} e f =
-    ap (λ a. weekend_charge problem n d a sunday) e ∙ ap (λ b. weekend_charge problem n d other b) f
+    ap (λ a. weekend_charge (problem.contract n) d a sunday) e ∙ ap (λ b. weekend_charge (problem.contract n) d other b) f
 
 same_weekends : (d : ℕ) {saturday other sunday also : Bool} → saturday ≡ other → sunday ≡ also →
     weekend_on d saturday sunday ≡ weekend_on d other also
@@ -105,7 +105,7 @@ module _ (problem : Problem) (prices : Prices) (roster : Roster) (n : ℕ) where
       work_run_weight * under_charge (work_run_before d) (works problem roster n d) (problem.contract n).work +
       off_run_weight * run_charge (off_run_before d) (is_off problem roster n d) (problem.contract n).off +
       request_weight * requested_on d +
-      weekend_charge problem n d (worked_before d) (works problem roster n d)
+      weekend_charge (problem.contract n) d (worked_before d) (works problem roster n d)
 
   -- after a day off there is no run on a shift type
   abbrev pub HasRunIfOn : ℕ → Past → Type 0
@@ -143,7 +143,7 @@ module _ (problem : Problem) (prices : Prices) (roster : Roster) (n : ℕ) where
   module _ (d : ℕ) (past : Past) (choice : Option ℕ) (follows : Follows d past) (chooses : Chooses d choice) where
     pub shifts-same : shift_charges problem past choice ≡ shifts_on d
     shifts-same =
-        sum-same problem.shifts (λ s. run_charge (run_on past s) (is_shift choice s) (problem.limits s))
+        sum_below-same problem.shifts (λ s. run_charge (run_on past s) (is_shift choice s) (problem.limits s))
         (λ s. run_charge (shift_run_before d s) (is_on problem roster n s d) (problem.limits s))
         (λ s s_in. same_charge (problem.limits s) (follows.on s s_in) (sym (chooses.on s s_in)))
 

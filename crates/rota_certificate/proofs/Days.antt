@@ -4,7 +4,7 @@ use Rattle.std.specs.Prelude.{Some}
 use Rattle.std.proofs.lemmas.Bool.{cases_Bool, eqb-true, eqb-false, false_from_ne_true}
 use Rattle.rota_core.specs.SumsBelow.{sum_below, any_below}
 use Rattle.rota_certificate.specs.DayCharges.{is_shift}
-use Rattle.rota_certificate.proofs.Sums.{sum-at, sum-zero, any-none, any-at, any-some, find-below}
+use Rattle.rota_certificate.proofs.Sums.{sum-at, sum_below-zero, any-none, any-at, any-some, find-below}
 
 -- whether a day has the cell on a shift type with a skill
 module _ (S K : ℕ) (has : ℕ → ℕ → Bool) where
@@ -34,7 +34,7 @@ module _ (S K : ℕ) (has : ℕ → ℕ → Bool) where
 
   pub free-total : IsFree → (f : ℕ → ℕ → ℕ) → total f ≡ 0
   free-total free f =
-      sum-zero S _ (λ s s_in. sum-zero K _ (λ k k_in. ap (λ (b : Bool). cond b (f s k) 0) (free.none s k s_in k_in)))
+      sum_below-zero S _ (λ s s_in. sum_below-zero K _ (λ k k_in. ap (λ (b : Bool). cond b (f s k) 0) (free.none s k s_in k_in)))
 
   module _ (shift skill : ℕ) (one : HasOne shift skill) where
     pub one-not : (s k : ℕ) → s < S → k < K → (s ≡ shift → k ≢ skill) → has s k ≡ false
@@ -56,7 +56,7 @@ module _ (S K : ℕ) (has : ℕ → ℕ → Bool) where
 
     pub one-total : (f : ℕ → ℕ → ℕ) → total f ≡ f shift skill
     one-total f =
-        sum-at S shift _ one.shift_in (λ s s_in other. sum-zero K _ (λ k k_in.
+        sum-at S shift _ one.shift_in (λ s s_in other. sum_below-zero K _ (λ k k_in.
         ap (λ (b : Bool). cond b (f s k) 0) (one-not s k s_in k_in (λ same _. other same)))) ∙
         (sum-at K skill _ one.skill_in (λ k k_in other.
         ap (λ (b : Bool). cond b (f shift k) 0) (one-not shift k one.shift_in k_in (λ _ same. other same))) ∙

@@ -17,7 +17,7 @@ use Rattle.rota_certificate.specs.DayCharges.{shift_charges, totals_cost, under_
 use Rattle.rota_certificate.specs.Minimums.{least_below, not_allowed}
 use Rattle.rota_certificate.specs.NurseBounds.{LeafWeek, Terms, allowed_rebate, choice_value, least_choice, least_days, rest_after}
 use Rattle.rota_certificate.specs.declared.tariffs.Tariff.{Tariff}
-use Rattle.rota_certificate.proofs.Sums.{least-same, sum-same}
+use Rattle.rota_certificate.proofs.Sums.{least-same, sum_below-same}
 
 -- ---- charges of equivalent numbers
 
@@ -54,7 +54,7 @@ module _ (problem : Problem) (n : ℕ) (past other : Past) (equivalent : AreEqui
 
   shift_charges-equivalent : (choice : Option ℕ) → shift_charges problem past choice ≡ shift_charges problem other choice
   shift_charges-equivalent choice =
-      sum-same problem.shifts (λ s. run_charge (run_on past s) (is_shift choice s) (problem.limits s))
+      sum_below-same problem.shifts (λ s. run_charge (run_on past s) (is_shift choice s) (problem.limits s))
       (λ s. run_charge (run_on other s) (is_shift choice s) (problem.limits s))
       (λ s _. run_charge-equivalent (problem.limits s) (run_on past s) (run_on other s) (is_shift choice s) (equivalent.shift_run s))
 
@@ -62,7 +62,7 @@ module _ (problem : Problem) (n : ℕ) (past other : Past) (equivalent : AreEqui
   fixed_charge-equivalent d choice =
       let under = under_charge-equivalent (problem.contract n).work past.work_run other.work_run (is_some choice) equivalent.work_run in
       let off = run_charge-equivalent (problem.contract n).off past.off_run other.off_run (not (is_some choice)) equivalent.off_run in
-      let weekend = ap (λ (last : Option ℕ). weekend_charge problem n d (is_some last) (is_some choice)) equivalent.last in
+      let weekend = ap (λ (last : Option ℕ). weekend_charge (problem.contract n) d (is_some last) (is_some choice)) equivalent.last in
       omega (arith, under, off, weekend)
 
   assignment-equivalent : (choice : Option ℕ) → assignment_above (problem.contract n) past choice ≡ assignment_above (problem.contract n) other choice

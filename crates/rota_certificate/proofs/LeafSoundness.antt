@@ -24,7 +24,7 @@ use Rattle.rota_certificate.proofs.LeafWeeks.{allows-plan, have-nurses, places-w
 use Rattle.rota_certificate.proofs.NursePart.{nurse-bounded, weeks_of}
 use Rattle.rota_certificate.proofs.ParityPart.{rules_tariff}
 use Rattle.rota_certificate.proofs.PlanParts.{fixed_of, nurse_cost-is, optimum_of, plan_cost-is}
-use Rattle.rota_certificate.proofs.Sums.{sum-each, sum-le, sum-plus, sum-same, sum-times}
+use Rattle.rota_certificate.proofs.Sums.{sum-each, sum-le, sum_below-plus, sum_below-same, sum-times}
 use Rattle.rota_certificate.proofs.SurchargeSums.{AreMet, all_terms, case-met, surcharges-within}
 
 -- the number of nurses of a leaf, and of a plan, is the number of its first week
@@ -85,8 +85,8 @@ module _ (first : Problem) (later : List Problem) (rosters : List Roster) (perio
   nurses-within charges =
       let each = sum-le nurses (λ n. nurse_bound unit (tariff_of unit charges n) weeks n + paid_in_plan weeks plan n)
       (λ n. nurse_cost unit (tariff_of unit charges n) plan n + span) (λ n n_in. nurse-within (tariff_of unit charges n) n n_in) in
-      let left = sum-plus nurses (λ n. nurse_bound unit (tariff_of unit charges n) weeks n) (paid_in_plan weeks plan) in
-      let right = sum-plus nurses (λ n. nurse_cost unit (tariff_of unit charges n) plan n) (λ n. span) in
+      let left = sum_below-plus nurses (λ n. nurse_bound unit (tariff_of unit charges n) weeks n) (paid_in_plan weeks plan) in
+      let right = sum_below-plus nurses (λ n. nurse_cost unit (tariff_of unit charges n) plan n) (λ n. span) in
       omega (arith, each, left, right, sum-each nurses span)
 
   nurses_are : nurses_of plan ≡ nurses
@@ -100,11 +100,11 @@ module _ (first : Problem) (later : List Problem) (rosters : List Roster) (perio
       let terms : ℕ → ℕ =
       λ n. f ShiftRuns n * charges_of_nurse ShiftRuns plan n + f WorkDays n * charges_of_nurse WorkDays plan n +
       f Assignments n * charges_of_nurse Assignments plan n + f Weekends n * charges_of_nurse Weekends plan n in
-      let each = sum-same nurses (λ n. nurse_cost unit (tariff n) plan n) (λ n. terms n + unit * fixed_of plan n)
+      let each = sum_below-same nurses (λ n. nurse_cost unit (tariff n) plan n) (λ n. terms n + unit * fixed_of plan n)
       (λ n _. nurse_cost-is unit (tariff n) plan n ∙
       ap (λ (one : Tariff). one.shift_runs * charges_of_nurse ShiftRuns plan n + one.work_days * charges_of_nurse WorkDays plan n +
       one.assignments * charges_of_nurse Assignments plan n + one.weekends * charges_of_nurse Weekends plan n + unit * fixed_of plan n) (is n)) in
-      let split = sum-plus nurses terms (λ n. unit * fixed_of plan n) in
+      let split = sum_below-plus nurses terms (λ n. unit * fixed_of plan n) in
       let times = sum-times nurses unit (fixed_of plan) in
       let count = ap (λ (m : ℕ). sum_below m terms) nurses_are in
       omega (arith, each, split, times, count)

@@ -1,7 +1,6 @@
 -- The weeks of a leaf, one after another.
 use Rattle.std.proofs.Common.{◌≡◌, ℕ, zero, suc, ◌+◌, ◌<◌, ◌≤◌, Bool, true, false, ap, refl, sym, ◌∙◌, subst, arith, List, [], ◌∷◌, length, map, drop, slice_index_or}
 use Rattle.std.specs.List.{AllByRecursion, list_any}
-use Rattle.rota_core.specs.PriceTables.{IsForWeek}
 use Rattle.rota_core.specs.Problem.{Problem}
 use Rattle.rota_core.specs.Sizes.{Numbers}
 use Rattle.rota_certificate.specs.Facts.{Case}
@@ -10,12 +9,7 @@ use Rattle.rota_certificate.specs.LentLeaves.{AreFit, Fits, IsLeaf, LentTables, 
 use Rattle.rota_certificate.specs.NurseBounds.{LeafWeek, charge_totals}
 use Rattle.rota_certificate.specs.Stages.{IsFreeOfTotals, IsStage, StageTables, later_of, week_of}
 use Rattle.rota_certificate.specs.declared.stages.LentWeek.{LentWeek}
-
--- a property of each element holds for the element at an index
-pub all-at : {X : Type 0} (P : X → Type 0) (xs : List X) (i : ℕ) (d : X) → AllByRecursion P xs → i < length xs → P (slice_index_or xs i d)
-all-at P [] i d all inside = absurd (omega arith)
-all-at P (x ∷ xs) zero d all inside = all.0
-all-at P (x ∷ xs) (suc i) d all inside = all-at P xs i d all.1 (omega arith)
+use Rattle.rota_certificate.proofs.ListSteps.{all-of}
 
 pub all-map : {X : Type 0} (P Q : X → Type 0) (xs : List X) → ((x : X) → P x → Q x) → AllByRecursion P xs → AllByRecursion Q xs
 all-map P Q [] each all = tt
@@ -89,7 +83,6 @@ lent-at leaf weeks i d same is =
 fits-next : (other next : Problem) (one : LentWeek) → next.numbers ≡ other.numbers → ((s : ℕ) → next.limits s ≡ other.limits s) →
     ((n : ℕ) → next.contract n ≡ other.contract n) → Fits other one → Fits next one
 fits-next other next one numbers limits contract fits = record {
-  shape = fits.shape;
   numbers = fits.numbers ∙ sym numbers;
   limits = λ s. fits.limits s ∙ sym (limits s);
   contract = λ n. fits.contract n ∙ sym (contract n);
@@ -102,7 +95,7 @@ next_of stage one = record stage { instance = one.instance.now; prices = one.pri
 module _ (stage : StageTables) (one : LentWeek) (at : one ≡ slice_index_or stage.leaf.weeks (stage.week + 1) one) (is : IsStage stage)
     (more : stage.week + 1 < length stage.leaf.weeks) where
   next-fits : Fits (week_of stage).week one
-  next-fits = subst (Fits (week_of stage).week) (sym at) (all-at (Fits (week_of stage).week) stage.leaf.weeks (stage.week + 1) one is.fit more)
+  next-fits = subst (Fits (week_of stage).week) (sym at) (all-of (Fits (week_of stage).week) stage.leaf.weeks (stage.week + 1) one is.fit more)
 
   pub next-left : later_of stage ≡ (week_of (next_of stage one) ∷ later_of (next_of stage one))
   next-left = drop-at stage.leaf (stage.week + 1) one more at
@@ -113,10 +106,10 @@ module _ (stage : StageTables) (one : LentWeek) (at : one ≡ slice_index_or sta
   pub next-is : IsStage (next_of stage one)
   next-is = record {
     nurse = subst (λ (numbers : Numbers). stage.nurse < numbers.nurses) (sym next-numbers) is.nurse;
+    contract = is.contract ∙ sym (next-fits.contract stage.nurse);
     at = next-left;
     inside = more;
     count = is.count;
-    shape = next-fits.shape;
     fit = all-map (Fits (week_of stage).week) (Fits (week_lent one)) stage.leaf.weeks
         (λ x fits. fits-next (week_of stage).week (week_lent one) x next-fits.numbers next-fits.limits next-fits.contract fits) is.fit;
     free = λ none. subst (AllByRecursion IsFreeOfTotals) next-left (is.free none).1;
@@ -145,17 +138,16 @@ first_of stage one = record stage { instance = one.instance.now; prices = one.pr
 
 pub first-is : (stage : StageTables) (one : LentWeek) → one ≡ slice_index_or stage.leaf.weeks 0 one → IsLeaf stage.leaf →
     stage.nurse < nurse_count (weeks_of stage.leaf) →
-    stage.charged ≡ charge_totals (weeks_of stage.leaf) → IsStage (first_of stage one)
-first-is stage one is leaf nurse charged =
+    stage.contract ≡ (week_lent one).contract stage.nurse → stage.charged ≡ charge_totals (weeks_of stage.leaf) → IsStage (first_of stage one)
+first-is stage one is leaf nurse contract charged =
     let all = first-fit stage.leaf.weeks one leaf.some is leaf.fit in
     let at = drop-at stage.leaf 0 one leaf.some is in
     record {
       nurse = omega (arith, nurse, ap nurse_count at);
+      contract = contract;
       at = at;
       inside = leaf.some;
       count = leaf.count;
-      shape = subst (λ (week : LentWeek). IsForWeek (week_lent week) week.prices.now) (sym is)
-          (all-at (Fits (week_lent one)) stage.leaf.weeks 0 one all leaf.some).shape;
       fit = all;
       free = λ none. subst (AllByRecursion IsFreeOfTotals) at (free-all (weeks_of stage.leaf) (sym charged ∙ none));
     }

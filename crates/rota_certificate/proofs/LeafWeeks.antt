@@ -21,7 +21,7 @@ use Rattle.rota_certificate.specs.Periods.{ArePeriod, Continue}
 use Rattle.rota_certificate.proofs.CaseChoices.{BeginsAt, KeepEach, all-allowed}
 use Rattle.rota_certificate.proofs.PlacePart.{case_place_bounds-within}
 use Rattle.rota_certificate.proofs.PlanParts.{HaveNurses, optimum_of}
-use Rattle.rota_certificate.proofs.Sums.{sum-plus}
+use Rattle.rota_certificate.proofs.Sums.{sum_below-plus}
 
 -- ---- the weeks
 
@@ -117,13 +117,13 @@ module _ (plan : Plan) (numbers : Numbers) (weeks : ℕ) (case : Case) (are_for 
       let planned : PlannedWeek = record { week = after problem history; roster = roster } in
       let rest : Plan = plan_after (history_after (after problem history) roster) problems rosters in
       let later = places-within unit (w + 1) (history_after (after problem history) roster) problems [] rosters (omega (arith, count)) (rw add-one begins.1) keep.1 in
-      let sum = sum-plus numbers.nurses (paid problem (λ d s k. 0) roster) (paid_in_plan (leaf_weeks case (w + 1) problems []) rest) in
+      let sum = sum_below-plus numbers.nurses (paid problem (λ d s k. 0) roster) (paid_in_plan (leaf_weeks case (w + 1) problems []) rest) in
       let cost = ap (λ (x : ℕ). unit * x) (sum_by-cons (λ (one : PlannedWeek). optimum_cost one.week one.roster) planned rest) in
       omega (arith, places-step unit w planned (λ d s k. 0) begins.0 keep.0, later, sum, cost)
   places-within unit w history (problem ∷ problems) (first ∷ prices) (roster ∷ rosters) count begins keep =
       let planned : PlannedWeek = record { week = after problem history; roster = roster } in
       let rest : Plan = plan_after (history_after (after problem history) roster) problems rosters in
       let later = places-within unit (w + 1) (history_after (after problem history) roster) problems prices rosters (omega (arith, count)) (rw add-one begins.1) keep.1 in
-      let sum = sum-plus numbers.nurses (paid problem first roster) (paid_in_plan (leaf_weeks case (w + 1) problems prices) rest) in
+      let sum = sum_below-plus numbers.nurses (paid problem first roster) (paid_in_plan (leaf_weeks case (w + 1) problems prices) rest) in
       let cost = ap (λ (x : ℕ). unit * x) (sum_by-cons (λ (one : PlannedWeek). optimum_cost one.week one.roster) planned rest) in
       omega (arith, places-step unit w planned first begins.0 keep.0, later, sum, cost)

@@ -7,7 +7,6 @@ use Rattle.rota_core.specs.InstanceTables.{InstanceTables, problem_of}
 use Rattle.rota_core.specs.PriceTables.{IsForWeek, PriceTables, prices_of}
 use Rattle.rota_core.specs.Prices.{Prices}
 use Rattle.rota_core.specs.Problem.{Problem}
-use Rattle.rota_core.specs.Sizes.{Numbers}
 use Rattle.rota_core.specs.declared.certificate.Certificate.{Certificate}
 use Rattle.rota_certificate.specs.CaseLimits.{IsLimitedCase}
 use Rattle.rota_certificate.specs.CertificateBounds.{lists_of}
@@ -23,54 +22,25 @@ use Rattle.rota_certificate.proofs.ListSteps.{all-of}
 abbrev instances : List LentWeek → List InstanceTables
 instances lent = map (λ one. one.instance.now) lent
 
-abbrev tables : List LentWeek → List PriceTables
-tables lent = map (λ one. one.prices.now) lent
-
 -- ---- the weeks fit the first
 
--- the two weeks have the same numbers, limits and contracts
-record AreLike (one other : Problem) : Type 0 where
-  pub numbers : one.numbers ≡ other.numbers
-  pub limits : (s : ℕ) → one.limits s ≡ other.limits s
-  pub contract : (n : ℕ) → one.contract n ≡ other.contract n
-
-fits-like : (other : Problem) (one : LentWeek) → IsForWeek other one.prices.now → AreLike (week_lent one) other → Fits other one
-fits-like other one shape like = record {
-  shape = record {
-    shifts = shape.shifts ∙ ap (λ (numbers : Numbers). numbers.shifts) (sym like.numbers);
-    skills = shape.skills ∙ ap (λ (numbers : Numbers). numbers.skills) (sym like.numbers);
-  };
-  numbers = like.numbers;
-  limits = like.limits;
-  contract = like.contract;
-}
-
-later-fit : (other before : Problem) (lent : List LentWeek) → AllByRecursion (IsForWeek other) (tables lent) → AreLike before other →
-    Continue before (map problem_of (instances lent)) → AllByRecursion (Fits other) lent
+later-fit : (other : Problem) (before : LentWeek) (lent : List LentWeek) → Fits other before →
+    Continue (week_lent before) (map problem_of (instances lent)) → AllByRecursion (Fits other) lent
 unfolding Continue
-later-fit other before [] shapes like period = tt
-later-fit other before (one ∷ lent) shapes like period =
-    let next : AreLike (week_lent one) other = record {
-      numbers = sym period.1.numbers ∙ like.numbers;
-      limits = λ s. sym (period.1.limits s) ∙ like.limits s;
-      contract = λ n. sym (period.1.contract n) ∙ like.contract n;
+later-fit other before [] fits period = tt
+later-fit other before (one ∷ lent) fits period =
+    let next : Fits other one = record {
+      numbers = sym period.1.numbers ∙ fits.numbers;
+      limits = λ s. sym (period.1.limits s) ∙ fits.limits s;
+      contract = λ n. sym (period.1.contract n) ∙ fits.contract n;
     } in
-    (fits-like other one shapes.0 next, later-fit other (week_lent one) lent shapes.1 next period.2)
+    (next, later-fit other one lent next period.2)
 
--- the tables are for the weeks: one for each week, with its shift types and skills
-abbrev pub AreForWeeks : List InstanceTables → List PriceTables → Type 0
-AreForWeeks [] list = ⊥
-AreForWeeks (first ∷ later) list = (length list ≡ length (first ∷ later)) × AllByRecursion (IsForWeek (problem_of first)) list
-
-all-fit : (lent : List LentWeek) → AreForWeeks (instances lent) (tables lent) → ArePeriod (map problem_of (instances lent)) → AreFit lent
-all-fit [] shapes period = absurd shapes
-all-fit (one ∷ lent) shapes period =
-    let same : AreLike (week_lent one) (week_lent one) = record { numbers = refl; limits = λ s. refl; contract = λ n. refl } in
-    (fits-like (week_lent one) one shapes.1.0 same, later-fit (week_lent one) (week_lent one) lent shapes.1.1 same period)
-
-some-weeks : (lent : List LentWeek) (list : List PriceTables) → AreForWeeks (instances lent) list → 0 < length lent
-some-weeks [] list shapes = absurd shapes
-some-weeks (one ∷ lent) list shapes = omega arith
+all-fit : (lent : List LentWeek) → ArePeriod (map problem_of (instances lent)) → AreFit lent
+all-fit [] period = tt
+all-fit (one ∷ lent) period =
+    let same : Fits (week_lent one) one = record { numbers = refl; limits = λ s. refl; contract = λ n. refl } in
+    (same, later-fit (week_lent one) one lent same period)
 
 -- ---- the leaf
 
@@ -78,14 +48,22 @@ all-mapped : {X Y : Type 0} (P : Y → Type 0) (f : X → Y) (xs : List X) → A
 all-mapped P f [] all = tt
 all-mapped P f (x ∷ xs) all = (all.0, all-mapped P f xs all.1)
 
--- the tables of a leaf are for the weeks of its certificate
+-- there is a week
+pub some-weeks : (weeks : List InstanceTables) (certificate : Certificate) → IsForWeeks weeks certificate → 0 < length weeks
+some-weeks [] certificate is_for = absurd is_for
+some-weeks (first ∷ later) certificate is_for = omega arith
+
+-- a leaf has a table for each week of its certificate
 pub leaf-tables : (weeks : List InstanceTables) (certificate : Certificate) (i : ℕ) → IsForWeeks weeks certificate →
-    i < length certificate.prices.items → AreForWeeks weeks (slice_index_or (lists_of certificate) i [])
+    i < length certificate.prices.items → length (slice_index_or (lists_of certificate) i []) ≡ length weeks
 leaf-tables [] certificate i is_for inside = absurd is_for
 leaf-tables (first ∷ later) certificate i is_for inside =
-    all-of (AreForWeeks (first ∷ later)) (lists_of certificate) i []
-    (all-mapped (AreForWeeks (first ∷ later)) (λ one. one.items) certificate.prices.items is_for.prices)
-    (omega (arith, length-map certificate.prices.items (λ one. one.items), inside))
+    let lists = all-of (λ list. (length list ≡ length (first ∷ later)) × AllByRecursion (IsForWeek (problem_of first)) list)
+    (lists_of certificate) i []
+    (all-mapped (λ list. (length list ≡ length (first ∷ later)) × AllByRecursion (IsForWeek (problem_of first)) list)
+    (λ one. one.items) certificate.prices.items is_for.prices)
+    (omega (arith, length-map certificate.prices.items (λ one. one.items), inside)) in
+    lists.0
 
 -- the list at an index
 pub list-at : {X : Type 0} (f : X → List PriceTables) (xs : List X) (i : ℕ) (x : X) → i < length xs → x ≡ slice_index_or xs i x →
@@ -93,15 +71,13 @@ pub list-at : {X : Type 0} (f : X → List PriceTables) (xs : List X) (i : ℕ) 
 list-at f xs i x inside is = ap f is ∙ sym (get_or-map f xs i x [] inside)
 
 module _ (leaf : LentTables) (weeks : List InstanceTables) (list : List PriceTables) (lent : AreLent leaf.weeks weeks list) where
-  pub lent-leaf : IsPeriod weeks → AreForWeeks weeks list → IsLimitedCase leaf.case → IsLeaf leaf
-  lent-leaf period shapes case =
-      let mine : AreForWeeks (instances leaf.weeks) (tables leaf.weeks) =
-      subst (λ (ts : List PriceTables). AreForWeeks (instances leaf.weeks) ts) (sym lent.tables)
-      (subst (λ (ws : List InstanceTables). AreForWeeks ws list) (sym lent.instances) shapes) in
+  pub lent-leaf : IsPeriod weeks → 0 < length weeks → IsLimitedCase leaf.case → IsLeaf leaf
+  lent-leaf period some case =
+      let same : length leaf.weeks ≡ length weeks = sym (length-map leaf.weeks (λ one. one.instance.now)) ∙ ap length lent.instances in
       record {
-        some = some-weeks leaf.weeks (tables leaf.weeks) mine;
-        count = omega (arith, length-map leaf.weeks (λ one. one.instance.now), ap length lent.instances, period.count);
-        fit = all-fit leaf.weeks mine (subst (λ (ws : List InstanceTables). ArePeriod (map problem_of ws)) (sym lent.instances) period.period);
+        some = omega (arith, same, some);
+        count = omega (arith, same, period.count);
+        fit = all-fit leaf.weeks (subst (λ (ws : List InstanceTables). ArePeriod (map problem_of ws)) (sym lent.instances) period.period);
         case = case;
       }
 

@@ -18,7 +18,7 @@ use Rattle.rota_rules.specs.WorkedWeekends.{above_max_weekends, worked_weekend_c
 use Rattle.rota_certificate.specs.Facts.{charges_in_week}
 use Rattle.rota_certificate.specs.NurseCosts.{fixed_cost, requests_of, tariff_cost}
 use Rattle.rota_certificate.specs.declared.tariffs.Tariff.{Tariff}
-use Rattle.rota_certificate.proofs.Sums.{sum-same, sum-plus, sum-times}
+use Rattle.rota_certificate.proofs.Sums.{sum_below-same, sum_below-plus, sum-times}
 
 -- the tariff of the rules, with this value of a point
 abbrev pub rules_tariff : ℕ → Tariff
@@ -79,8 +79,8 @@ module _ (problem : Problem) (roster : Roster) where
 
   pub penalty-tenths : penalty problem roster ≡ 15 * sum_below problem.nurses (charges_in_week ShiftRuns problem roster) + 10 * tenths
   penalty-tenths =
-      let each = sum-same problem.nurses week_cost (λ n. 15 * charges_in_week ShiftRuns problem roster n + 10 * tenths_of n) (λ n _. tenths-are n) in
-      let parts = sum-plus problem.nurses (λ n. 15 * charges_in_week ShiftRuns problem roster n) (λ n. 10 * tenths_of n) in
+      let each = sum_below-same problem.nurses week_cost (λ n. 15 * charges_in_week ShiftRuns problem roster n + 10 * tenths_of n) (λ n _. tenths-are n) in
+      let parts = sum_below-plus problem.nurses (λ n. 15 * charges_in_week ShiftRuns problem roster n) (λ n. 10 * tenths_of n) in
       let runs = sum-times problem.nurses 15 (charges_in_week ShiftRuns problem roster) in
       let others = sum-times problem.nurses 10 tenths_of in
       omega (arith, penalty-is, each, parts, runs, others)

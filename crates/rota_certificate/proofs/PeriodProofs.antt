@@ -7,21 +7,23 @@ use Rattle.rota_core.specs.InstanceTables.{InstanceTables, problem_of}
 use Rattle.rota_core.specs.Limits.{max_number}
 use Rattle.rota_core.specs.Problem.{Problem}
 use Rattle.rota_core.specs.Sizes.{Numbers}
-use Rattle.rota_core.specs.TreeNodes.{NodeTables, leaf_with, nodes_of, split_by}
+use Rattle.rota_core.specs.TreeNodes.{NodeTables, leaf_with, node_of, nodes_of, split_by}
 use Rattle.rota_core.specs.Trees.{Tree, leaf_tree, split_tree}
 use Rattle.rota_core.specs.declared.certificate.Certificate.{Certificate}
 use Rattle.rota_core.specs.declared.certificate.Condition.{Condition}
 use Rattle.rota_core.specs.declared.certificate.Fact.{Fact}
 use Rattle.rota_core.specs.declared.certificate.Fact.TheVariants.{Charges, Choice, EvenShiftRuns, Nurses}
+use Rattle.rota_core.specs.declared.certificate.Node.{Node}
 use Rattle.rota_certificate.specs.CaseLimits.{IsLimited}
-use Rattle.rota_certificate.specs.CertificateBounds.{HaveTables, lower_bound, minimums_bound}
+use Rattle.rota_certificate.specs.CertificateBounds.{lower_bound, minimums_bound}
+use Rattle.rota_certificate.specs.Evidence.{IsShortPath}
 use Rattle.rota_certificate.specs.Facts.{Case}
 use Rattle.rota_certificate.specs.PeriodBounds.{AreEvidence, AreEvidenceFor, AreOptimalAt, HaveNoPlan, IsForWeeks, NoneCostLess}
 use Rattle.rota_certificate.specs.Plans.{plan_cost, plan_of}
 use Rattle.rota_certificate.proofs.CertificateSoundness.{lower_bound-sound, minimums-prove}
 use Rattle.rota_certificate.proofs.LeafStages.{all-map}
 use Rattle.rota_certificate.proofs.ListSteps.{all-append, each-at}
-use Rattle.rota_certificate.proofs.TreePaths.{nodes-count}
+use Rattle.rota_certificate.proofs.TreePaths.{kept-at, kept-inside, nodes-count}
 
 -- ---- limits
 
@@ -52,24 +54,32 @@ nodes-limited numbers weeks prices (split_tree fact first second) is = (
       (nodes-limited numbers weeks prices second is.2),
 )
 
-module _ (certificate : Certificate) (list : List NodeTables) (is_tree : list ≡ nodes_of certificate.tree) where
-  pub node-at : (weeks : List InstanceTables) (i : ℕ) (node : NodeTables) → IsForWeeks weeks certificate → i < length list →
-      node ≡ slice_index_or list i node → IsLimitedNode (length certificate.prices.items) node
-  node-at [] i node is_for inside is = absurd is_for
-  node-at (first ∷ later) i node is_for inside is =
+module _ (certificate : Certificate) (nodes : List Node) (is_tree : map node_of nodes ≡ nodes_of certificate.tree) where
+  -- what a node contains is within the limits
+  pub limited-node : (weeks : List InstanceTables) (i : ℕ) (node : Node) (one : NodeTables) → IsForWeeks weeks certificate → i < length nodes →
+      node ≡ slice_index_or nodes i node → node_of node ≡ one → IsLimitedNode (length certificate.prices.items) one
+  limited-node [] i node one is_for inside is contains = absurd is_for
+  limited-node (first ∷ later) i node one is_for inside is contains =
       let prices = length certificate.prices.items in
-      each-at (IsLimitedNode prices) list i node
+      subst (IsLimitedNode prices) contains
+      (each-at (IsLimitedNode prices) (map node_of nodes) i (node_of node)
       (subst (AllByRecursion (IsLimitedNode prices)) (sym is_tree)
-      (nodes-limited (problem_of first).numbers (length (first ∷ later)) prices certificate.tree is_for.tree)) inside is
+      (nodes-limited (problem_of first).numbers (length (first ∷ later)) prices certificate.tree is_for.tree))
+      (kept-inside nodes i node inside is) (kept-at nodes i node inside is))
 
-  -- there are at most as many nodes as a file may have
-  pub few-nodes : (weeks : List InstanceTables) → IsForWeeks weeks certificate → length list ≤ 2 * max_number
-  few-nodes [] is_for = absurd is_for
-  few-nodes (first ∷ later) is_for = omega (arith, ap length is_tree, nodes-count certificate.tree, is_for.count)
+  -- the path to a node has at most as many conditions as a file has nodes
+  pub short-path : (weeks : List InstanceTables) (i : ℕ) (path : List Condition) → IsForWeeks weeks certificate → i < length nodes →
+      IsShortPath i path → IsShortPath (2 * max_number) path
+  short-path [] i path is_for inside short = absurd is_for
+  short-path (first ∷ later) i path is_for inside short = record {
+    few =
+        omega (arith, short.few, inside, length-map nodes node_of, ap length is_tree, nodes-count certificate.tree, is_for.count);
+    each = short.each;
+  }
 
 -- ---- soundness
 
-module _ (given : Case) (certificate : Certificate) (tables : HaveTables certificate) where
+module _ (given : Case) (certificate : Certificate) where
   for-problems : (first : InstanceTables) (later : List InstanceTables) → AreEvidence (first ∷ later) given certificate →
       AreEvidenceFor (problem_of first) (map problem_of later) given certificate
   for-problems first later evidence =
@@ -78,7 +88,6 @@ module _ (given : Case) (certificate : Certificate) (tables : HaveTables certifi
         period = evidence.period.period;
         given_for = subst (λ (n : ℕ). AreConditionsFor (problem_of first).numbers n given) count evidence.given_for.each;
         is_for = subst (λ (n : ℕ). IsCertificateFor (problem_of first) n certificate) count evidence.is_for;
-        tables = tables;
       }
 
   pub none-cost_less : (weeks : List InstanceTables) → AreEvidence weeks given certificate →

@@ -20,7 +20,7 @@ use Rattle.rota_certificate.specs.NurseCosts.{paid}
 use Rattle.rota_certificate.specs.PlaceBounds.{place_bound, place_cost}
 use Rattle.rota_certificate.specs.PlaceCases.{case_demand, case_place_bound, case_place_bounds, is_at, lowered_by, lowered_optimal, raised_by, raised_minimum}
 use Rattle.rota_certificate.specs.Plans.{Plan, PlannedWeek}
-use Rattle.rota_certificate.proofs.Sums.{sum-same, sum-times, cube-same, cube-le, cube-plus, cube-times, cube-swap}
+use Rattle.rota_certificate.proofs.Sums.{sum_below-same, sum-times, cube-same, cube-le, cube-plus, cube-times, cube-swap}
 
 -- with a price below the weight, the optimal number of nurses is best, or the minimum if it is more
 cheap_place : (weight price least best nurses : ℕ) → price < weight → least ≤ nurses →
@@ -155,7 +155,7 @@ module _ (plan : Plan) (w : ℕ) (planned : PlannedWeek) (here : slice_get plan 
   priced : (d s k : ℕ) → prices d s k * nurses_at week roster d s k ≡ sum_below week.nurses (λ n. price_at n d s k)
   priced d s k =
       sym (sum-times week.nurses (prices d s k) (λ n. cond (roster (cell n d s k)) 1 0)) ∙
-      sum-same week.nurses _ _ (λ n _. once (prices d s k) (roster (cell n d s k)))
+      sum_below-same week.nurses _ _ (λ n _. once (prices d s k) (roster (cell n d s k)))
 
   pub case_place_bounds-within : (unit : ℕ) (case : Case) → IsIn plan case → KeepsMinimum week roster →
       case_place_bounds unit case w week prices ≤ unit * optimum_cost week roster + sum_below week.nurses (paid week prices roster)

@@ -12,7 +12,7 @@ use Rattle.rota_certificate.specs.NurseCosts.{fixed_cost, nurse_cost, tariff_cos
 use Rattle.rota_certificate.specs.Plans.{Plan, PlannedWeek, plan_cost}
 use Rattle.rota_certificate.specs.declared.tariffs.Tariff.{Tariff}
 use Rattle.rota_certificate.proofs.ParityPart.{penalty-is, penalty-tenths, rules_tariff, tenths, week_cost, week_cost-is}
-use Rattle.rota_certificate.proofs.Sums.{sum-plus, sum-same, sum-times, sum-zero}
+use Rattle.rota_certificate.proofs.Sums.{sum_below-plus, sum_below-same, sum-times, sum_below-zero}
 
 -- the cost of the places of all weeks, by S1
 abbrev pub optimum_of : Plan → ℕ
@@ -52,19 +52,19 @@ nurse_cost-is unit tariff (one ∷ plan) n =
 pub plan_cost-is : (unit nurses : ℕ) (plan : Plan) → HaveNurses nurses plan →
     unit * plan_cost plan ≡ unit * optimum_of plan + sum_below nurses (nurse_cost unit (rules_tariff unit) plan)
 plan_cost-is unit nurses [] have =
-    omega (arith, sum-zero nurses (nurse_cost unit (rules_tariff unit) []) (λ n _. refl))
+    omega (arith, sum_below-zero nurses (nurse_cost unit (rules_tariff unit) []) (λ n _. refl))
 plan_cost-is unit nurses (one ∷ plan) have =
     let cost = sum_by-cons (λ (two : PlannedWeek). penalty two.week two.roster) one plan in
     let optimum = sum_by-cons (λ (two : PlannedWeek). optimum_cost two.week two.roster) one plan in
     let here = ap (λ (x : ℕ). unit * x) (penalty-is one.week one.roster) in
     let count = ap (λ (m : ℕ). unit * sum_below m (week_cost one.week one.roster)) have.0 in
     let times = sum-times nurses unit (week_cost one.week one.roster) in
-    let each = sum-same nurses (λ n. unit * week_cost one.week one.roster n)
+    let each = sum_below-same nurses (λ n. unit * week_cost one.week one.roster n)
     (λ n. tariff_cost (rules_tariff unit) one.week one.roster n + unit * fixed_cost one.week one.roster n) (λ n _. week_cost-is one.week one.roster unit n) in
-    let both = sum-same nurses (nurse_cost unit (rules_tariff unit) (one ∷ plan))
+    let both = sum_below-same nurses (nurse_cost unit (rules_tariff unit) (one ∷ plan))
     (λ n. (tariff_cost (rules_tariff unit) one.week one.roster n + unit * fixed_cost one.week one.roster n) + nurse_cost unit (rules_tariff unit) plan n)
     (λ n _. sum_by-cons (λ (two : PlannedWeek). tariff_cost (rules_tariff unit) two.week two.roster n + unit * fixed_cost two.week two.roster n) one plan) in
-    let parts = sum-plus nurses (λ n. tariff_cost (rules_tariff unit) one.week one.roster n + unit * fixed_cost one.week one.roster n)
+    let parts = sum_below-plus nurses (λ n. tariff_cost (rules_tariff unit) one.week one.roster n + unit * fixed_cost one.week one.roster n)
     (nurse_cost unit (rules_tariff unit) plan) in
     omega (
       arith,
@@ -82,14 +82,14 @@ plan_cost-is unit nurses (one ∷ plan) have =
 -- the cost of the plan is 15 for each charge of a shift run, and a multiple of 10
 pub plan-tenths : (nurses : ℕ) (plan : Plan) → HaveNurses nurses plan →
     (rest : ℕ) × (plan_cost plan ≡ 15 * sum_below nurses (charges_of_nurse ShiftRuns plan) + 10 * rest)
-plan-tenths nurses [] have = (0, omega (arith, sum-zero nurses (charges_of_nurse ShiftRuns []) (λ n _. refl)))
+plan-tenths nurses [] have = (0, omega (arith, sum_below-zero nurses (charges_of_nurse ShiftRuns []) (λ n _. refl)))
 plan-tenths nurses (one ∷ plan) have =
     let later = plan-tenths nurses plan have.1 in
     let cost = sum_by-cons (λ (two : PlannedWeek). penalty two.week two.roster) one plan in
     let here = penalty-tenths one.week one.roster in
     let count = ap (λ (m : ℕ). sum_below m (charges_in_week ShiftRuns one.week one.roster)) have.0 in
-    let both = sum-same nurses (charges_of_nurse ShiftRuns (one ∷ plan))
+    let both = sum_below-same nurses (charges_of_nurse ShiftRuns (one ∷ plan))
     (λ n. charges_in_week ShiftRuns one.week one.roster n + charges_of_nurse ShiftRuns plan n)
     (λ n _. sum_by-cons (λ (two : PlannedWeek). charges_in_week ShiftRuns two.week two.roster n) one plan) in
-    let parts = sum-plus nurses (charges_in_week ShiftRuns one.week one.roster) (charges_of_nurse ShiftRuns plan) in
+    let parts = sum_below-plus nurses (charges_in_week ShiftRuns one.week one.roster) (charges_of_nurse ShiftRuns plan) in
     (tenths one.week one.roster + later.0, omega (arith, cost, here, count, both, parts, later.1))

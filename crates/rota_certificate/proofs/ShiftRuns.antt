@@ -7,7 +7,7 @@ use Rattle.rota_core.specs.Problem.{Problem}
 use Rattle.rota_core.specs.declared.values.Past.{Past}
 use Rattle.rota_certificate.specs.DayCharges.{is_shift, run_charge, shift_charges}
 use Rattle.rota_certificate.specs.ShiftCharges.{charge_of_last, ended_charge, going_charge}
-use Rattle.rota_certificate.proofs.Sums.{sum-at, sum-two, sum-zero}
+use Rattle.rota_certificate.proofs.Sums.{sum-at, sum-two, sum_below-zero}
 
 differs : (a b : ℕ) → b ≢ a → (a == b) ≡ false
 differs a b other = false_from_ne_true (a == b) (λ same. other (sym (eqb-true a b same)))
@@ -30,7 +30,7 @@ module _ (problem : Problem) (run : ℕ) where
 
   two-charges : (last choice : Option ℕ) → IfSome choice (λ s. s < problem.shifts) → IfSome last (λ s. s < problem.shifts) →
       going last choice + charge_of_last problem run last choice ≡ sum_below problem.shifts (charge_on last choice)
-  two-charges None None choice_in last_in = sym (sum-zero problem.shifts _ (λ s _. refl))
+  two-charges None None choice_in last_in = sym (sum_below-zero problem.shifts _ (λ s _. refl))
   two-charges (Some l) None choice_in last_in =
       let all : sum_below problem.shifts (charge_on (Some l) None) ≡ charge_on (Some l) None l =
       sum-at problem.shifts l (charge_on (Some l) None) last_in

@@ -2,34 +2,20 @@
 use Rattle.std.proofs.Common.{◌≡◌, ℕ, zero, suc, ◌+◌, ◌*◌, ◌<◌, ◌≤◌, ◌≢◌, ◌⊎◌, inl, inr, Bool, true, false, ◌||◌, refl, ap, sym, ◌∙◌, arith, min, add-one}
 use Rattle.std.proofs.lemmas.Bool.{cases_Bool}
 use Rattle.rota_core.specs.SumsBelow.{sum_below, any_below}
+pub use Rattle.rota_rules.proofs.LogicWords.{sum_below-plus, sum_below-same, sum_below-zero}
 use Rattle.rota_certificate.specs.Minimums.{least_below}
 
 -- ---- sums
-
-pub sum-same : (n : ℕ) (f g : ℕ → ℕ) → ((i : ℕ) → i < n → f i ≡ g i) → sum_below n f ≡ sum_below n g
-unfolding sum_below
-sum-same zero f g same = refl
-sum-same (suc n) f g same = omega (arith, sum-same n f g (λ i below. same i (omega arith)), same n (omega arith))
 
 pub sum-le : (n : ℕ) (f g : ℕ → ℕ) → ((i : ℕ) → i < n → f i ≤ g i) → sum_below n f ≤ sum_below n g
 unfolding sum_below
 sum-le zero f g le = omega arith
 sum-le (suc n) f g le = omega (arith, sum-le n f g (λ i below. le i (omega arith)), le n (omega arith))
 
-pub sum-plus : (n : ℕ) (f g : ℕ → ℕ) → sum_below n (λ i. f i + g i) ≡ sum_below n f + sum_below n g
-unfolding sum_below
-sum-plus zero f g = refl
-sum-plus (suc n) f g = omega (arith, sum-plus n f g)
-
 pub sum-times : (n w : ℕ) (f : ℕ → ℕ) → sum_below n (λ i. w * f i) ≡ w * sum_below n f
 unfolding sum_below
 sum-times zero w f = omega arith
 sum-times (suc n) w f = omega (arith, sum-times n w f)
-
-pub sum-zero : (n : ℕ) (f : ℕ → ℕ) → ((i : ℕ) → i < n → f i ≡ 0) → sum_below n f ≡ 0
-unfolding sum_below
-sum-zero zero f none = refl
-sum-zero (suc n) f none = omega (arith, sum-zero n f (λ i below. none i (omega arith)), none n (omega arith))
 
 pub sum-each : (n c : ℕ) → sum_below n (λ i. c) ≡ n * c
 unfolding sum_below
@@ -39,8 +25,8 @@ sum-each (suc n) c = omega (arith, sum-each n c)
 -- the order of two sums does not matter
 pub sum-swap : (m n : ℕ) (f : ℕ → ℕ → ℕ) → sum_below m (λ i. sum_below n (λ j. f i j)) ≡ sum_below n (λ j. sum_below m (λ i. f i j))
 unfolding sum_below
-sum-swap zero n f = sym (sum-zero n (λ j. 0) (λ i below. refl))
-sum-swap (suc m) n f = omega (arith, sum-swap m n f, sum-plus n (λ j. sum_below m (λ i. f i j)) (f m))
+sum-swap zero n f = sym (sum_below-zero n (λ j. 0) (λ i below. refl))
+sum-swap (suc m) n f = omega (arith, sum-swap m n f, sum_below-plus n (λ j. sum_below m (λ i. f i j)) (f m))
 
 -- a number below n + 1 is n, or below n
 pub last_or_before : (i n : ℕ) → i < suc n → (i ≡ n) ⊎ (i < n)
@@ -53,7 +39,7 @@ sum-at zero i f below none = absurd (omega arith)
 sum-at (suc n) i f below none =
     elim (last_or_before i n below) [
       | inl last ↦
-          let rest : sum_below n f ≡ 0 = sum-zero n f (λ j j_below. none j (omega arith) (λ same. omega arith)) in
+          let rest : sum_below n f ≡ 0 = sum_below-zero n f (λ j j_below. none j (omega arith) (λ same. omega arith)) in
           omega (arith, rest, ap f last)
       | inr before ↦ omega (arith, sum-at n i f before (λ j j_below other. none j (omega arith) other), none n (omega arith) (λ same. omega arith))
     ]
@@ -91,7 +77,7 @@ module _ (D S K : ℕ) where
 
   pub cube-same : (f g : ℕ → ℕ → ℕ → ℕ) → ((d s k : ℕ) → d < D → s < S → k < K → f d s k ≡ g d s k) → cube f ≡ cube g
   cube-same f g same =
-      sum-same D _ _ (λ d d_in. sum-same S _ _ (λ s s_in. sum-same K (f d s) (g d s) (λ k k_in. same d s k d_in s_in k_in)))
+      sum_below-same D _ _ (λ d d_in. sum_below-same S _ _ (λ s s_in. sum_below-same K (f d s) (g d s) (λ k k_in. same d s k d_in s_in k_in)))
 
   pub cube-le : (f g : ℕ → ℕ → ℕ → ℕ) → ((d s k : ℕ) → d < D → s < S → k < K → f d s k ≤ g d s k) → cube f ≤ cube g
   cube-le f g le =
@@ -99,21 +85,21 @@ module _ (D S K : ℕ) where
 
   pub cube-plus : (f g : ℕ → ℕ → ℕ → ℕ) → cube (λ d s k. f d s k + g d s k) ≡ cube f + cube g
   cube-plus f g =
-      sum-same D _ _ (λ d _. sum-same S _ _ (λ s _. sum-plus K (f d s) (g d s)) ∙
-      sum-plus S (λ s. sum_below K (f d s)) (λ s. sum_below K (g d s))) ∙
-      sum-plus D (λ d. sum_below S (λ s. sum_below K (f d s))) (λ d. sum_below S (λ s. sum_below K (g d s)))
+      sum_below-same D _ _ (λ d _. sum_below-same S _ _ (λ s _. sum_below-plus K (f d s) (g d s)) ∙
+      sum_below-plus S (λ s. sum_below K (f d s)) (λ s. sum_below K (g d s))) ∙
+      sum_below-plus D (λ d. sum_below S (λ s. sum_below K (f d s))) (λ d. sum_below S (λ s. sum_below K (g d s)))
 
   pub cube-times : (w : ℕ) (f : ℕ → ℕ → ℕ → ℕ) → cube (λ d s k. w * f d s k) ≡ w * cube f
   cube-times w f =
-      sum-same D _ _ (λ d _. sum-same S _ _ (λ s _. sum-times K w (f d s)) ∙ sum-times S w (λ s. sum_below K (f d s))) ∙
+      sum_below-same D _ _ (λ d _. sum_below-same S _ _ (λ s _. sum-times K w (f d s)) ∙ sum-times S w (λ s. sum_below K (f d s))) ∙
       sum-times D w (λ d. sum_below S (λ s. sum_below K (f d s)))
 
   -- the sum over all places and nurses, in either order
   pub cube-swap : (N : ℕ) (f : ℕ → ℕ → ℕ → ℕ → ℕ) →
       cube (λ d s k. sum_below N (λ n. f n d s k)) ≡ sum_below N (λ n. cube (f n))
   cube-swap N f =
-      sum-same D _ _ (λ d _.
-      sum-same S _ _ (λ s _. sum-swap K N (λ k n. f n d s k)) ∙ sum-swap S N (λ s n. sum_below K (λ k. f n d s k))) ∙
+      sum_below-same D _ _ (λ d _.
+      sum_below-same S _ _ (λ s _. sum-swap K N (λ k n. f n d s k)) ∙ sum-swap S N (λ s n. sum_below K (λ k. f n d s k))) ∙
       sum-swap D N (λ d n. sum_below S (λ s. sum_below K (λ k. f n d s k)))
 
 -- ---- loops

@@ -23,7 +23,7 @@ use Rattle.rota_certificate.specs.Tariffs.{limit_of, lost, lost_by, over_limits,
 use Rattle.rota_certificate.specs.declared.surcharges.Surcharged.{Surcharged}
 use Rattle.rota_certificate.specs.declared.limits.Limit.{Limit}
 use Rattle.rota_certificate.proofs.PlacePart.{both}
-use Rattle.rota_certificate.proofs.Sums.{any-at, sum-at, sum-le, sum-plus, sum-same, sum-times, sum-zero, last_or_before}
+use Rattle.rota_certificate.proofs.Sums.{any-at, sum-at, sum-le, sum_below-plus, sum_below-same, sum-times, sum_below-zero, last_or_before}
 
 -- the sum over the kinds has only the term of the limit's kind
 of-kind : (kind : ChargeKind) (concerned : Bool) (m : ℕ) (c : ChargeKind → ℕ) →
@@ -123,13 +123,13 @@ module _ (plan : Plan) where
   limit-terms : (limit : ChargeLimit) (m : ℕ) → ForSome limit.nurse (λ n. n < N) →
       all_terms (λ kind n. cond (counts limit kind n) m 0) ≡ m * charges_counted limit plan
   limit-terms limit m inside =
-      sum-same N _ (λ n. cond (option_map_or (λ one. one == n) limit.nurse true) m 0 * c limit.kind n)
+      sum_below-same N _ (λ n. cond (option_map_or (λ one. one == n) limit.nurse true) m 0 * c limit.kind n)
       (λ n _. of-kind limit.kind (option_map_or (λ one. one == n) limit.nurse true) m (λ kind. c kind n)) ∙
       of-nurses limit.nurse N m (c limit.kind) inside
 
   no-terms : (f : ChargeKind → ℕ → ℕ) → ((kind : ChargeKind) (n : ℕ) → f kind n ≡ 0) → all_terms f ≡ 0
   no-terms f none =
-      sum-zero N (terms_of f) (λ n _. omega (
+      sum_below-zero N (terms_of f) (λ n _. omega (
         arith,
         ap (λ (x : ℕ). x * c ShiftRuns n) (none ShiftRuns n),
         ap (λ (x : ℕ). x * c WorkDays n) (none WorkDays n),
@@ -184,7 +184,7 @@ module _ (plan : Plan) where
         let later : ChargeKind → ℕ → ℕ = λ kind n. over_limits (f kind n) charges in
         let split : (kind : ChargeKind) (n : ℕ) → over_limits (f kind n) (one ∷ charges) ≡ here kind n + later kind n =
         λ kind n. sum_by-cons (λ (two : Surcharged). option_map_or (f kind n two.surcharge) (limit_of two.condition.fact two.condition.holds) 0) one charges in
-        sum-same N _ (λ n. terms_of here n + terms_of later n)
+        sum_below-same N _ (λ n. terms_of here n + terms_of later n)
         (λ n _. omega (
           arith,
           ap (λ (x : ℕ). x * c ShiftRuns n) (split ShiftRuns n),
@@ -192,7 +192,7 @@ module _ (plan : Plan) where
           ap (λ (x : ℕ). x * c Assignments n) (split Assignments n),
           ap (λ (x : ℕ). x * c Weekends n) (split Weekends n),
         )) ∙
-        sum-plus N (terms_of here) (terms_of later)
+        sum_below-plus N (terms_of here) (terms_of later)
 
     pub added-within : (charges : List Surcharged) → AreMet charges → all_terms (added charges) ≤ lost charges
     added-within [] met = omega (arith, no-terms (λ kind n. 0) (λ kind n. refl))
@@ -278,8 +278,8 @@ module _ (plan : Plan) where
         weight unit charges kind n * c kind n + taken charges kind n * c kind n ≤ unit * points_of kind * c kind n + added charges kind n * c kind n =
         λ kind. weight-within charges met unit kind n n_in (within-each charges unit N n n_in within kind) in
         omega (arith, kind-within ShiftRuns, kind-within WorkDays, kind-within Assignments, kind-within Weekends)) in
-        let left = sum-plus N (terms_of (weight unit charges)) (terms_of (taken charges)) in
-        let right = sum-plus N (terms_of (λ kind m. unit * points_of kind)) (terms_of (added charges)) in
+        let left = sum_below-plus N (terms_of (weight unit charges)) (terms_of (taken charges)) in
+        let right = sum_below-plus N (terms_of (λ kind m. unit * points_of kind)) (terms_of (added charges)) in
         omega (arith, each, left, right)
 
     -- the costs of all charges by the leaf's tariffs, with the gain of the bound, are at most the costs by the rules, with its loss

@@ -1,6 +1,6 @@
 -- A tree of cases covers all plans: the minimum of its leaves' bounds is at most the cost of each plan, if each leaf's bound is at most
 -- the cost of each plan in its case.
-use Rattle.std.proofs.Common.{ℕ, ◌≤◌, true, false, inl, inr, arith, min, List, [], ◌∷◌, ◌++◌}
+use Rattle.std.proofs.Common.{ℕ, ◌≤◌, inl, inr, arith, ◌∷◌}
 use Rattle.std.specs.List.{AllByRecursion}
 use Rattle.std.proofs.lemmas.Bool.{cases_Bool}
 use Rattle.rota_core.specs.Certificates.{IsFactFor, IsTreeFor}

@@ -22,7 +22,7 @@ use Rattle.rota_rules.specs.ConsecutiveAssignments.{history_on, work_run_weight}
 use Rattle.rota_rules.specs.ConsecutiveDaysOff.{consecutive_day_off_cost_of, off_run_weight}
 use Rattle.rota_rules.specs.ShiftOffRequests.{request_weight}
 use Rattle.rota_certificate.specs.DayCharges.{assignment_above, choice_cost, is_shift, over_charge, past_after, run_charge, run_on, shift_charges, under_charge}
-use Rattle.rota_certificate.specs.DayCharges.{totals_cost, weekend_above, weekend_charge, weekend_on, weighted}
+use Rattle.rota_certificate.specs.DayCharges.{totals_cost, weekend_above, weekend_charge, weighted}
 use Rattle.rota_certificate.specs.Facts.{charges_in_week}
 use Rattle.rota_certificate.specs.NurseBounds.{LeafWeek, Terms, least_days}
 use Rattle.rota_certificate.specs.NurseCosts.{AllowsChoices, paid, requests_of}
@@ -34,7 +34,7 @@ use Rattle.rota_certificate.proofs.DaySteps.{Chooses, Follows, day_cost-is, fixe
 use Rattle.rota_certificate.proofs.DaySteps.{requested_on, shift_run_before, shifts_on, shifts-same, weekends_on, work_run_before, worked_before}
 use Rattle.rota_certificate.proofs.FirstBelow.{first-inside}
 use Rattle.rota_certificate.proofs.LeastCosts.{least_days-end, least_days-step}
-use Rattle.rota_certificate.proofs.Sums.{sum-same, sum-swap}
+use Rattle.rota_certificate.proofs.Sums.{sum_below-same, sum-swap}
 
 -- ---- the costs of the week are the costs of its days
 
@@ -46,7 +46,7 @@ by_day has history limits = omega arith
 run_cost-is : (has : ℕ → Bool) (history : ℕ) (limits : Span) →
     run_cost has history limits ≡ sum_below DAYS (λ d. run_charge (run_length has history d) (has d) limits)
 run_cost-is has history limits =
-    by_day has history limits ∙ sum-same DAYS (day_cost has history limits) _ (λ d _. day_cost-is has history limits d)
+    by_day has history limits ∙ sum_below-same DAYS (day_cost has history limits) _ (λ d _. day_cost-is has history limits d)
 
 over_by_day : (has : ℕ → Bool) (history maximum : ℕ) →
     run_over has history maximum ≡ sum_below DAYS (λ d. cond (is_over has history maximum d) 1 0)
@@ -62,7 +62,7 @@ run_over-is : (has : ℕ → Bool) (history : ℕ) (limits : Span) →
     run_over has history limits.max ≡ sum_below DAYS (λ d. over_charge (run_length has history d) (has d) limits)
 run_over-is has history limits =
     over_by_day has history limits.max ∙
-    sum-same DAYS (λ d. cond (is_over has history limits.max d) 1 0) _
+    sum_below-same DAYS (λ d. cond (is_over has history limits.max d) 1 0) _
     (λ d _. rw (add-one d) (over-charged (has d) (run_length has history d) limits))
 
 run_under-is : (has : ℕ → Bool) (history : ℕ) (limits : Span) →
@@ -143,14 +143,14 @@ module _ (problem : Problem) (prices : Prices) (roster : Roster) (n : ℕ) where
 
   pub shifts-are : sum_below DAYS (shifts_on problem prices roster n) ≡ charges_in_week ShiftRuns problem roster n
   shifts-are =
-      sym (sum-same problem.shifts _ _ (λ s _. run_cost-is (is_on problem roster n s) (history_on problem n s) (problem.limits s)) ∙
+      sym (sum_below-same problem.shifts _ _ (λ s _. run_cost-is (is_on problem roster n s) (history_on problem n s) (problem.limits s)) ∙
       sum-swap problem.shifts DAYS (λ s d.
       run_charge (shift_run_before problem prices roster n d s) (is_on problem roster n s d) (problem.limits s)))
 
   pub over-are : sum_below DAYS (over_on problem prices roster n) ≡ charges_in_week WorkDays problem roster n
   over-are = sym (run_over-is (works problem roster n) start.work_run (problem.contract n).work)
 
-  weekends-are : sum_below DAYS (λ d. weekend_charge problem n d (worked_before problem prices roster n d) (works problem roster n d)) ≡
+  weekends-are : sum_below DAYS (λ d. weekend_charge (problem.contract n) d (worked_before problem prices roster n d) (works problem roster n d)) ≡
       complete_weekend_cost_of problem roster n
   unfolding sum_below
   weekends-are = omega arith
@@ -167,7 +167,7 @@ module _ (problem : Problem) (prices : Prices) (roster : Roster) (n : ℕ) where
       (λ d. under_charge (work_run_before problem prices roster n d) (works problem roster n d) (problem.contract n).work)
       (λ d. run_charge (off_run_before problem prices roster n d) (is_off problem roster n d) (problem.contract n).off)
       (requested_on problem prices roster n)
-      (λ d. weekend_charge problem n d (worked_before problem prices roster n d) (works problem roster n d)) in
+      (λ d. weekend_charge (problem.contract n) d (worked_before problem prices roster n d) (works problem roster n d)) in
       let work = run_under-is (works problem roster n) start.work_run (problem.contract n).work in
       let off = run_cost-is (is_off problem roster n) start.off_run (problem.contract n).off in
       omega (arith, parts, work, off, weekends-are)

@@ -31,11 +31,11 @@ pub record AreLimitedCharges (charges : List Surcharged) : Type 0 where
   pub each : AllByRecursion (λ one. IsLimited one.condition.fact) charges
   pub small : AllByRecursion (λ one. one.surcharge ≤ max_price) charges
 
--- the minimum of the demand is at most this number, and its optimal number is a number of a file
-pub record IsLimitedDemand (most : ℕ) (demand : Demand) : Type 0 where
-  pub minimum : demand.minimum ≤ most
-  pub optimal : demand.optimal ≤ max_number
-
 -- the maximum of a minimum in a case: "more than k nurses" asks for k + 1
 abbrev pub most_nurses : ℕ
 most_nurses = max_number + 1
+
+-- the demand of a place in a case: its minimum is at most this number, and its optimal number is a number of a file
+pub record IsLimitedDemand (demand : Demand) : Type 0 where
+  pub minimum : demand.minimum ≤ most_nurses
+  pub optimal : demand.optimal ≤ max_number

@@ -1,9 +1,9 @@
 -- The bound of a certificate: the minimum of the bounds of the leaves of its tree. The case of a leaf has the conditions on its path to the
 -- root, and the given conditions, which all plans are asked to meet.
 use Rattle.std.specs.Prelude.{ℕ, ◌+◌, ◌-◌, ◌/◌, ◌*◌, ◌++◌, Bool, true, false, min, if◌then◌else◌, List, [], ◌∷◌, map, reverse, slice_index_or}
-use Rattle.std.specs.List.{AllByRecursion, list_any}
+use Rattle.std.specs.List.{list_any}
 use Rattle.rota_core.specs.PriceTables.{PriceTables, prices_of}
-use Rattle.rota_core.specs.Prices.{ArePrices, Prices}
+use Rattle.rota_core.specs.Prices.{Prices}
 pub use Rattle.rota_core.specs.Prices.{thousandths}
 use Rattle.rota_core.specs.Problem.{Problem}
 use Rattle.rota_core.specs.Trees.{LeafTables, Tree, leaf_tree, split_tree}
@@ -60,10 +60,6 @@ case_of path given = reverse path ++ given
 -- the lists of prices
 abbrev pub lists_of : Certificate → List (List PriceTables)
 lists_of certificate = map (λ list. list.items) certificate.prices.items
-
--- no price is above the maximum
-abbrev pub HaveTables : Certificate → Type 0
-HaveTables certificate = AllByRecursion (AllByRecursion (λ t. ArePrices (prices_of t))) (lists_of certificate)
 
 -- the prices of a leaf
 abbrev pub prices_of_leaf : Certificate → LeafTables → List Prices

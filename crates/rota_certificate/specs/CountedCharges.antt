@@ -1,11 +1,11 @@
 -- The number of a nurse's charges of a kind, as it is counted: day by day for runs, week by week for totals.
-use Rattle.std.specs.Prelude.{◌≡◌, ℕ, ◌-◌, ◌≤◌, ⊤, Option, List, [], ◌∷◌, is_some, length, map}
+use Rattle.std.specs.Prelude.{◌≡◌, ℕ, ◌-◌, ◌≤◌, Option, List, [], ◌∷◌, is_some, length, map}
 use Rattle.rota_core.specs.Limits.{max_weeks}
 use Rattle.rota_core.specs.Problem.{Problem}
 use Rattle.rota_core.specs.InstanceTables.{InstanceTables, problem_of}
 use Rattle.rota_core.specs.HardRules.{is_on}
 use Rattle.rota_core.specs.Roster.{Roster}
-use Rattle.rota_core.specs.RosterTables.{HasShapeOf, RosterTables, set_of}
+use Rattle.rota_core.specs.RosterTables.{RosterTables, set_of}
 use Rattle.rota_core.specs.Sizes.{Numbers}
 use Rattle.rota_core.specs.declared.certificate.ChargeKind.{ChargeKind}
 use Rattle.rota_core.specs.declared.certificate.ChargeKind.TheVariants.{Assignments, ShiftRuns, Weekends, WorkDays}
@@ -44,18 +44,11 @@ pub record IsCountedWeek (kind : ChargeKind) (week : Problem) (roster : Roster) 
 
 -- ---- weeks with their rosters
 
--- there is a roster of the shape of each week
-abbrev pub HaveShapes : List InstanceTables → List RosterTables → Type 0
-HaveShapes [] [] = ⊤
-HaveShapes [] (roster ∷ rosters) = ⊥
-HaveShapes (week ∷ weeks) [] = ⊥
-HaveShapes (week ∷ weeks) (roster ∷ rosters) = HasShapeOf (problem_of week) roster × HaveShapes weeks rosters
-
--- the weeks make a period, and the rosters keep its hard rules
+-- the weeks make a period, and there is a roster for each, which keeps its hard rules
 pub record IsPlanned (weeks : List InstanceTables) (rosters : List RosterTables) : Type 0 where
   pub count : length weeks ≤ max_weeks
   pub period : ArePeriod (map problem_of weeks)
-  pub shapes : HaveShapes weeks rosters
+  pub as_many : length rosters ≡ length weeks
   pub keep : KeepRules (map problem_of weeks) (map set_of rosters)
 
 -- the numbers of nurses, shift types and skills of the first week; all weeks have the same

@@ -38,9 +38,9 @@ requests_against problem n d None = 0
 requests_against problem n d (Some s) = problem.requests n d s
 
 -- the cost of the weekend, which is charged on Sunday
-abbrev pub weekend_charge : Problem → (nurse day : ℕ) → (saturday sunday : Bool) → ℕ
-weekend_charge problem n d saturday sunday =
-    (if d == 6 && (problem.contract n).complete && exactly_one saturday sunday then complete_weekend_weight else 0)
+abbrev pub weekend_charge : Contract → (day : ℕ) → (saturday sunday : Bool) → ℕ
+weekend_charge contract d saturday sunday =
+    (if d == 6 && contract.complete && exactly_one saturday sunday then complete_weekend_weight else 0)
 
 -- 1 if the day of work is beyond the maximum in a row
 abbrev pub over_charge : (run : ℕ) → (works : Bool) → Span → ℕ
@@ -56,7 +56,7 @@ fixed_charge problem n d past choice =
     work_run_weight * under_charge past.work_run (is_some choice) (problem.contract n).work +
     off_run_weight * run_charge past.off_run (not (is_some choice)) (problem.contract n).off +
     request_weight * requests_against problem n d choice +
-    weekend_charge problem n d (is_some past.last) (is_some choice)
+    weekend_charge (problem.contract n) d (is_some past.last) (is_some choice)
 
 -- 1 on a Sunday after a weekend with work, otherwise 0
 abbrev pub weekend_on : ℕ → (saturday sunday : Bool) → ℕ

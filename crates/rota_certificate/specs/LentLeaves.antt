@@ -3,7 +3,7 @@ use Rattle.std.specs.Prelude.{◌≡◌, ℕ, ◌≤◌, ◌<◌, ⊤, List, [],
 use Rattle.std.specs.List.{AllByRecursion}
 use Rattle.rota_core.specs.InstanceTables.{problem_of}
 use Rattle.rota_core.specs.Limits.{max_weeks}
-use Rattle.rota_core.specs.PriceTables.{IsForWeek, prices_of}
+use Rattle.rota_core.specs.PriceTables.{prices_of}
 use Rattle.rota_core.specs.Prices.{Prices}
 use Rattle.rota_core.specs.Problem.{Problem}
 use Rattle.rota_certificate.specs.CaseLimits.{IsLimitedCase}
@@ -28,9 +28,8 @@ pub record LentTables : Type 0 where
 abbrev pub weeks_of : LentTables → List LeafWeek
 weeks_of leaf = leaf_weeks leaf.case 0 (map week_lent leaf.weeks) (map prices_lent leaf.weeks)
 
--- the prices are for the week, and the week has the numbers, limits and contracts of another
+-- the week has the numbers, limits and contracts of another
 pub record Fits (other : Problem) (one : LentWeek) : Type 0 where
-  pub shape : IsForWeek (week_lent one) one.prices.now
   pub numbers : (week_lent one).numbers ≡ other.numbers
   pub limits : (s : ℕ) → (week_lent one).limits s ≡ other.limits s
   pub contract : (n : ℕ) → (week_lent one).contract n ≡ other.contract n

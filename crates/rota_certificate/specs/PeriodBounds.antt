@@ -6,7 +6,6 @@ use Rattle.rota_core.specs.Limits.{max_number, max_weeks}
 use Rattle.rota_core.specs.Problem.{Problem}
 use Rattle.rota_core.specs.Roster.{Roster}
 use Rattle.rota_core.specs.declared.certificate.Certificate.{Certificate}
-use Rattle.rota_certificate.specs.CertificateBounds.{HaveTables}
 use Rattle.rota_certificate.specs.CountedCharges.{numbers_in}
 use Rattle.rota_certificate.specs.Facts.{Case}
 use Rattle.rota_certificate.specs.Optimality.{AreOptimal, KeepAndMeet}
@@ -35,12 +34,11 @@ pub record AreEvidence (weeks : List InstanceTables) (given : Case) (certificate
   pub given_for : AreGivenFor weeks given
   pub is_for : IsForWeeks weeks certificate
 
--- the same of weeks without their tables, for a certificate with prices up to the maximum
+-- the same of weeks without their tables
 pub record AreEvidenceFor (first : Problem) (later : List Problem) (given : Case) (certificate : Certificate) : Type 0 where
   pub period : ArePeriod (first ∷ later)
   pub given_for : AreConditionsFor first.numbers (length (first ∷ later)) given
   pub is_for : IsCertificateFor first (length (first ∷ later)) certificate
-  pub tables : HaveTables certificate
 
 -- rosters that keep the hard rules of the weeks, meet the given conditions, and cost this number of points, are optimal
 abbrev pub AreOptimalAt : List Problem → (given : Case) → (points : ℕ) → Type 0

@@ -11,6 +11,7 @@ stage_of fields = record {
   week = fields.week;
   unit = fields.unit;
   nurse = fields.nurse;
+  contract = fields.contract;
   tariff = fields.tariff;
   charged = fields.charged;
 }

@@ -3,8 +3,9 @@ use Rattle.std.specs.Prelude.{◌≡◌, ℕ, ◌+◌, ◌*◌, ◌≤◌, ◌<�
 use Rattle.std.specs.List.{AllByRecursion}
 use Rattle.rota_core.specs.InstanceTables.{InstanceTables, problem_of}
 use Rattle.rota_core.specs.Limits.{max_weeks}
-use Rattle.rota_core.specs.PriceTables.{IsForWeek, PriceTables, prices_of}
+use Rattle.rota_core.specs.PriceTables.{PriceTables, prices_of}
 use Rattle.rota_core.specs.Sizes.{DAYS}
+use Rattle.rota_core.specs.declared.values.Contract.{Contract}
 use Rattle.rota_core.specs.declared.values.Past.{Past}
 use Rattle.rota_certificate.specs.DayCharges.{choice_cost}
 use Rattle.rota_certificate.specs.LeafBounds.{may_choose}
@@ -12,7 +13,7 @@ use Rattle.rota_certificate.specs.LentLeaves.{Fits, LentTables, weeks_of}
 use Rattle.rota_certificate.specs.NurseBounds.{LeafWeek, Terms, least_days, rest_after}
 use Rattle.rota_certificate.specs.declared.tariffs.Tariff.{Tariff}
 
--- a week of a leaf with its prices and its number, the value of a point, the nurse and her tariff, and whether totals are charged
+-- a week of a leaf with its prices and its number, the value of a point, the nurse with her contract and tariff, and whether totals are charged
 pub record StageTables : Type 0 where
   pub instance : InstanceTables
   pub prices : PriceTables
@@ -20,6 +21,7 @@ pub record StageTables : Type 0 where
   pub week : ℕ
   pub unit : ℕ
   pub nurse : ℕ
+  pub contract : Contract
   pub tariff : Tariff
   pub charged : Bool
 
@@ -62,10 +64,10 @@ IsFreeOfTotals one = one.week.is_last ≡ false
 -- the stage's week has the stage's number, all weeks fit it, and if totals are not charged, neither it nor a later week is the last
 pub record IsStage (stage : StageTables) : Type 0 where
   pub nurse : stage.nurse < (week_of stage).week.nurses
+  pub contract : stage.contract ≡ (week_of stage).week.contract stage.nurse
   pub at : drop stage.week (all_of stage) ≡ (week_of stage ∷ later_of stage)
   pub inside : stage.week < length stage.leaf.weeks
   pub count : length stage.leaf.weeks ≤ max_weeks
-  pub shape : IsForWeek (week_of stage).week stage.prices
   pub fit : AllByRecursion (Fits (week_of stage).week) stage.leaf.weeks
   pub free : stage.charged ≡ false → AllByRecursion IsFreeOfTotals (week_of stage ∷ later_of stage)
 

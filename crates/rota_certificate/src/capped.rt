@@ -16,7 +16,6 @@ fn capped_number(number: u16, limits: Span) -> u16
 
 // The run on the last shift type, or its cap if that is less; 0 after a day off.
 fn capped_shift_run(instance: &Instance, past: Past) -> u16
-    requires last_in { IfSome past.last (λ s. s < (problem_of instance.now).shifts) }
     ensures { result ≡ capped_shift_run (problem_of instance.now) past }
 {
     match past.last {
@@ -27,7 +26,6 @@ fn capped_shift_run(instance: &Instance, past: Past) -> u16
 
 /// The past with each number above its cap replaced by the cap. It has the same charges.
 pub fn capped(instance: &Instance, nurse: u16, past: Past) -> Past
-    requires nurse_in { nurse < (problem_of instance.now).nurses }
     requires last_in { IfSome past.last (λ s. s < (problem_of instance.now).shifts) }
     ensures equivalent { AreEquivalent (problem_of instance.now) nurse past result }
     ensures capped { IsCapped (problem_of instance.now) nurse result }

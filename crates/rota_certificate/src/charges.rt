@@ -36,7 +36,6 @@ fn run_charge(run: u16, has: bool, limits: Span) -> u16
 
 // The charge of the run on the shift type of the day, if any.
 fn going_charge(instance: &Instance, past: Past, choice: Option<u8>) -> u16
-    requires choice_in { IfSome choice (λ s. s < (problem_of instance.now).shifts) }
     ensures { result ≡ going_charge (problem_of instance.now) past choice }
 {
     match choice {
@@ -47,7 +46,6 @@ fn going_charge(instance: &Instance, past: Past, choice: Option<u8>) -> u16
 
 // The charge of the run that the day ends, if any: on the last shift type, if the day has another.
 fn ended_charge(instance: &Instance, past: Past, choice: Option<u8>) -> u16
-    requires last_in { IfSome past.last (λ s. s < (problem_of instance.now).shifts) }
     ensures { result ≡ ended_charge (problem_of instance.now) past choice }
 {
     match past.last {
@@ -71,9 +69,6 @@ pub fn shift_charges(instance: &Instance, past: Past, choice: Option<u8>) -> u64
 
 // The number of request rows against the choice.
 fn requests_against(instance: &Instance, nurse: u16, day: u8, choice: Option<u8>) -> u16
-    requires nurse_in { nurse < (problem_of instance.now).nurses }
-    requires day_in { day < DAYS }
-    requires choice_in { IfSome choice (λ s. s < (problem_of instance.now).shifts) }
     ensures { result ≡ requests_against (problem_of instance.now) nurse day choice }
 {
     match choice {
@@ -83,11 +78,10 @@ fn requests_against(instance: &Instance, nurse: u16, day: u8, choice: Option<u8>
 }
 
 // The cost of the weekend, which is charged on Sunday.
-fn weekend_charge(instance: &Instance, nurse: u16, day: u8, saturday: bool, sunday: bool) -> u64
-    requires nurse_in { nurse < (problem_of instance.now).nurses }
-    ensures { result ≡ weekend_charge (problem_of instance.now) nurse day saturday sunday }
+fn weekend_charge(contract: Contract, day: u8, saturday: bool, sunday: bool) -> u64
+    ensures { result ≡ weekend_charge contract day saturday sunday }
 {
-    if day == 6 && instance.contract(nurse).complete && saturday != sunday {
+    if day == 6 && contract.complete && saturday != sunday {
         u64::from(COMPLETE_WEEKEND_WEIGHT)
     } else {
         0
@@ -113,19 +107,23 @@ fn under_charge(run: u16, works: bool, limits: Span) -> u16
 }
 
 /// The charges of the day that no case limits, in points.
-pub fn fixed_charge(instance: &Instance, nurse: u16, day: u8, past: Past, choice: Option<u8>) -> u64
-    requires nurse_in { nurse < (problem_of instance.now).nurses }
-    requires day_in { day < DAYS }
-    requires choice_in { IfSome choice (λ s. s < (problem_of instance.now).shifts) }
+pub fn fixed_charge(
+    instance: &Instance,
+    contract: Contract,
+    nurse: u16,
+    day: u8,
+    past: Past,
+    choice: Option<u8>,
+) -> u64
+    requires contract { contract ≡ (problem_of instance.now).contract nurse }
     ensures charge { result ≡ fixed_charge (problem_of instance.now) nurse day past choice }
     ensures small { result ≤ 1000000000 }
 {
     let works = choice.is_some();
-    let contract = instance.contract(nurse);
     let under = under_charge(past.work_run, works, contract.work);
     let off = run_charge(past.off_run, !works, contract.off);
     let requests = requests_against(instance, nurse, day, choice);
-    let weekend = weekend_charge(instance, nurse, day, past.last.is_some(), works);
+    let weekend = weekend_charge(contract, day, past.last.is_some(), works);
     u64::from(WORK_RUN_WEIGHT) * u64::from(under)
         + u64::from(OFF_RUN_WEIGHT) * u64::from(off)
         + u64::from(REQUEST_WEIGHT) * u64::from(requests)
@@ -146,7 +144,6 @@ fn weekend_on(day: u8, saturday: bool, sunday: bool) -> u16
 
 /// The past after the day.
 pub fn past_after(instance: &Instance, day: u8, past: Past, choice: Option<u8>) -> Past
-    requires day_in { day < DAYS }
     requires choice_in { IfSome choice (λ s. s < (problem_of instance.now).shifts) }
     requires near { IsNear (problem_of instance.now).shifts most_days past }
     ensures past { result ≡ past_after day past choice }

@@ -1,11 +1,10 @@
 //! Whether the rosters of some weeks meet conditions.
 
-ghost use Rattle.std.specs.Prelude.{◌≡◌, ◌<◌, IfSome, MatchOption, length};
+ghost use Rattle.std.specs.Prelude.{◌≡◌, ◌<◌, MatchOption, length};
 ghost use Rattle.rota_core.specs.Certificates.{AreConditionsFor, IsChargeLimitFor, IsFactFor};
 ghost use Rattle.rota_core.specs.HardRules.{nurses_at};
 ghost use Rattle.rota_core.specs.InstanceTables.{problem_of};
-ghost use Rattle.rota_core.specs.RosterTables.{HasShapeOf, set_of};
-ghost use Rattle.rota_core.specs.Sizes.{DAYS};
+ghost use Rattle.rota_core.specs.RosterTables.{set_of};
 ghost use Rattle.rota_certificate.specs.CountedCharges.{IsPlanned, numbers_in};
 ghost use Rattle.rota_certificate.specs.UnmetConditions.{IsFirstUnmetCondition};
 ghost use Rattle.rota_certificate.specs.Plans.{plan_from};
@@ -16,10 +15,6 @@ use rota_core::{Cell, ChargeKind, ChargeLimit, Condition, DAYS, Fact, Instance, 
 
 // Whether the nurse has the choice on the day.
 fn has_choice(instance: &Instance, roster: &Roster, nurse: u16, day: u8, choice: Option<u8>) -> bool
-    requires nurse_in { nurse < (problem_of instance.now).nurses }
-    requires day_in { day < DAYS }
-    requires choice_in { IfSome choice (λ s. s < (problem_of instance.now).shifts) }
-    requires shape { HasShapeOf (problem_of instance.now) roster.now }
     ensures { result ≡ has_choice (problem_of instance.now) (set_of roster.now) nurse day choice }
 {
     match choice {
@@ -30,10 +25,6 @@ fn has_choice(instance: &Instance, roster: &Roster, nurse: u16, day: u8, choice:
 
 // The number of nurses at the place.
 fn nurses_at(instance: &Instance, roster: &Roster, day: u8, shift: u8, skill: u8) -> u16
-    requires day_in { day < DAYS }
-    requires shift_in { shift < (problem_of instance.now).shifts }
-    requires skill_in { skill < (problem_of instance.now).skills }
-    requires shape { HasShapeOf (problem_of instance.now) roster.now }
     ensures { result ≡ nurses_at (problem_of instance.now) (set_of roster.now) day shift skill }
 {
     let mut count = 0;

@@ -1,7 +1,6 @@
 //! The costs of a nurse's days by her tariff, and of her totals at the start and at the end.
 
 ghost use Rattle.std.specs.Prelude.{◌≡◌, ◌+◌, ◌*◌, ◌≤◌, ◌<◌, IfSome};
-ghost use Rattle.rota_core.specs.InstanceTables.{problem_of};
 ghost use Rattle.rota_certificate.specs.DayCharges.{start_cost, totals_cost, weighted};
 ghost use Rattle.rota_certificate.specs.Minimums.{not_allowed};
 ghost use Rattle.rota_certificate.specs.NurseBounds.{end_cost};
@@ -37,16 +36,15 @@ fn totals_cost(tariff: Tariff, contract: Contract, day: u8, past: Past, choice: 
 
 /// The cost of the day for the nurse with this past.
 pub fn choice_cost(stage: &Stage<'_>, day: u8, past: Past, choice: Option<u8>) -> u64
-    requires day_in { day < DAYS }
     requires choice_in { IfSome choice (λ s. s < (week_of stage.now).week.shifts) }
     requires last_in { IfSome past.last (λ s. s < (week_of stage.now).week.shifts) }
     ensures cost { result ≡ choice_cost_in stage.now day past choice }
     ensures small { result ≤ 5 * not_allowed }
 {
-    let contract = stage.instance.contract(stage.nurse);
+    let contract = stage.contract;
     let shifts = shift_charges(stage.instance, past, choice);
     let over = over_charge(past.work_run, choice.is_some(), contract.work);
-    let fixed = fixed_charge(stage.instance, stage.nurse, day, past, choice);
+    let fixed = fixed_charge(stage.instance, contract, stage.nurse, day, past, choice);
     let totals = if stage.charged {
         totals_cost(stage.tariff, contract, day, past, choice)
     } else {
@@ -74,8 +72,7 @@ pub fn end_cost(stage: &Stage<'_>, past: Past) -> u64
     ensures cost { result ≡ end_cost (terms_of stage.now) (week_of stage.now).week stage.now.nurse past }
     ensures small { result ≤ not_allowed }
 {
-    let contract = stage.instance.contract(stage.nurse);
-    let missing = missing_total(stage.instance.last_week(), contract, past);
+    let missing = missing_total(stage.instance.last_week(), stage.contract, past);
     stage
         .unit
         .times(u64::from(ASSIGNMENT_WEIGHT) * u64::from(missing))

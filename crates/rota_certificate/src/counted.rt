@@ -1,9 +1,9 @@
 //! The number of a nurse's charges of a kind in the rosters of some weeks.
 
-ghost use Rattle.std.specs.Prelude.{◌≡◌, ℕ, ◌+◌, ◌-◌, ◌≤◌, ◌<◌, IfSome, map};
+ghost use Rattle.std.specs.Prelude.{◌≡◌, ℕ, ◌+◌, ◌-◌, ◌≤◌, ◌<◌, IfSome};
 ghost use Rattle.rota_core.specs.HardRules.{KeepsHardRules, is_on};
 ghost use Rattle.rota_core.specs.InstanceTables.{problem_of};
-ghost use Rattle.rota_core.specs.RosterTables.{HasShapeOf, set_of};
+ghost use Rattle.rota_core.specs.RosterTables.{set_of};
 ghost use Rattle.rota_core.specs.Sizes.{DAYS};
 ghost use Rattle.rota_rules.specs.CountedTotals.{charged_excess};
 ghost use Rattle.rota_certificate.specs.CountedCharges.{IsCountedWeek, IsPlanned, choice_on, numbers_in, run_charges, total_charges};
@@ -23,10 +23,6 @@ struct CountedWeek {
 
 /// Whether the nurse is on the shift type that day.
 pub fn is_on(instance: &Instance, roster: &Roster, nurse: u16, shift: u8, day: u8) -> bool
-    requires nurse_in { nurse < (problem_of instance.now).nurses }
-    requires shift_in { shift < (problem_of instance.now).shifts }
-    requires day_in { day < DAYS }
-    requires shape { HasShapeOf (problem_of instance.now) roster.now }
     ensures { result ≡ is_on (problem_of instance.now) (set_of roster.now) nurse shift day }
 {
     for skill in 0..instance.skills() {
@@ -45,9 +41,6 @@ pub fn is_on(instance: &Instance, roster: &Roster, nurse: u16, shift: u8, day: u
 /// The nurse's first shift type of the day, if she works.
 #[tactic(auto, using(crate::proofs::FirstBelow::searching))]
 pub fn choice_on(instance: &Instance, roster: &Roster, nurse: u16, day: u8) -> Option<u8>
-    requires nurse_in { nurse < (problem_of instance.now).nurses }
-    requires day_in { day < DAYS }
-    requires shape { HasShapeOf (problem_of instance.now) roster.now }
     ensures choice { result ≡ choice_on (problem_of instance.now) (set_of roster.now) nurse day }
     ensures inside { IfSome result (λ s. s < (problem_of instance.now).shifts) }
 {
@@ -67,7 +60,6 @@ fn run_charges(
     past: Past,
     choice: Option<u8>,
 ) -> u64
-    requires nurse_in { nurse < (problem_of instance.now).nurses }
     requires choice_in { IfSome choice (λ s. s < (problem_of instance.now).shifts) }
     requires last_in { IfSome past.last (λ s. s < (problem_of instance.now).shifts) }
     ensures charges { result ≡ run_charges kind (problem_of instance.now) nurse past choice }
@@ -103,7 +95,6 @@ fn charged_excess(instance: &Instance, maximum: u16, before: u16, now: u16) -> u
 
 // The charges of the kind for a week between these pasts, if they are charges of totals.
 fn total_charges(instance: &Instance, kind: ChargeKind, nurse: u16, before: Past, now: Past) -> u64
-    requires nurse_in { nurse < (problem_of instance.now).nurses }
     ensures charges { result ≡ total_charges kind (problem_of instance.now) nurse before now }
     ensures small { result ≤ 131070 }
 {
@@ -134,7 +125,6 @@ fn charges_in_week(
     past: Past,
 ) -> CountedWeek
     requires nurse_in { nurse < (problem_of instance.now).nurses }
-    requires shape { HasShapeOf (problem_of instance.now) roster.now }
     requires near { IsNear (problem_of instance.now).shifts (most_days - DAYS) past }
     ensures counted { (history : Pasts) → history nurse ≡ past → let week = after (problem_of instance.now) history in
         KeepsHardRules week (set_of roster.now) → IsCountedWeek kind week (set_of roster.now) nurse result }
@@ -158,7 +148,6 @@ fn charges_in_week(
 /// The nurse's past after the week with this roster, if this is her past before it.
 pub fn past_after_week(instance: &Instance, roster: &Roster, nurse: u16, past: Past) -> Past
     requires nurse_in { nurse < (problem_of instance.now).nurses }
-    requires shape { HasShapeOf (problem_of instance.now) roster.now }
     requires near { IsNear (problem_of instance.now).shifts (most_days - DAYS) past }
     ensures past { (history : Pasts) → history nurse ≡ past → let week = after (problem_of instance.now) history in
         KeepsHardRules week (set_of roster.now) → result ≡ history_after week (set_of roster.now) nurse }
@@ -174,7 +163,6 @@ pub fn charges_of_nurse(weeks: &[Instance], rosters: &[Roster], kind: ChargeKind
     ensures small { result ≤ 54525120 }
 {
     let first = &weeks[0];
-    let _nurses = first.nurses();
     let mut past = first.past(nurse);
     let mut sum = 0;
     for number in 0..weeks.len() {

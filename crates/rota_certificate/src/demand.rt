@@ -2,7 +2,8 @@
 
 ghost use Rattle.std.specs.Prelude.{◌≡◌, ◌≤◌, ◌<◌, length, slice_index_or};
 ghost use Rattle.rota_core.specs.Limits.{max_number};
-ghost use Rattle.rota_certificate.specs.PlaceCases.{case_demand, is_at, lowered_by, lowered_optimal, raised_by, raised_minimum};
+ghost use Rattle.rota_core.specs.WeekTables.{IsDemand};
+ghost use Rattle.rota_certificate.specs.PlaceCases.{case_demand, is_at, lowered_by, raised_by};
 ghost use Rattle.rota_certificate.specs.CaseLimits.{IsLimited, IsLimitedCase, IsLimitedDemand, most_nurses};
 
 use rota_core::{Condition, Demand, Fact, NurseLimit};
@@ -66,9 +67,9 @@ pub fn condition_at(case: &[Condition], index: usize) -> Condition
 /// The demand of the place in the case.
 pub fn case_demand(case: &[Condition], place: Place, demand: Demand) -> Demand
     requires limited { IsLimitedCase case.now }
-    requires demand { IsLimitedDemand max_number demand }
+    requires demand { IsDemand demand }
     ensures demand { result ≡ case_demand case.now place.week place.day place.shift place.skill demand }
-    ensures within { IsLimitedDemand most_nurses result }
+    ensures within { IsLimitedDemand result }
 {
     let mut minimum = demand.minimum;
     let mut optimal = demand.optimal;

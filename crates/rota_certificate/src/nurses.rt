@@ -22,8 +22,6 @@ use rota_core::{DAYS, Instance, Past};
 
 // Whether the choice may not follow the last shift type.
 fn is_barred(instance: &Instance, past: Past, choice: Option<u8>) -> bool
-    requires choice_in { IfSome choice (λ s. s < (problem_of instance.now).shifts) }
-    requires last_in { IfSome past.last (λ s. s < (problem_of instance.now).shifts) }
     ensures { result ≡ is_barred (problem_of instance.now) past choice }
 {
     match choice {
@@ -37,8 +35,6 @@ fn is_barred(instance: &Instance, past: Past, choice: Option<u8>) -> bool
 
 // The rebate of the choice, if the case allows it.
 fn allowed_rebate(stage: &Stage<'_>, day: u8, choice: Option<u8>) -> u64
-    requires day_in { day < DAYS }
-    requires choice_in { IfSome choice (λ s. s < (week_of stage.now).week.shifts) }
     ensures rebate { result ≡ allowed_rebate (week_of stage.now) stage.now.nurse day choice }
     ensures small { result ≤ not_allowed }
 {
@@ -53,8 +49,6 @@ fn allowed_rebate(stage: &Stage<'_>, day: u8, choice: Option<u8>) -> u64
 // The rebate of the choice, which is known from then on.
 fn known_rebate(stage: &Stage<'_>, known: &mut Known, day: u8, choice: Option<u8>) -> u64
     requires right { AreRight stage.now known.old }
-    requires day_in { day < DAYS }
-    requires choice_in { IfSome choice (λ s. s < (week_of stage.now).week.shifts) }
     ensures { Finds stage.now known.new (allowed_rebate (week_of stage.now) stage.now.nurse day choice) result }
 {
     if let Some(rebate) = known.rebate(stage.week, day, choice) {
@@ -154,6 +148,7 @@ fn least_after(stage: &Stage<'_>, known: &mut Known, past: Past) -> u64
         week,
         unit: stage.unit,
         nurse: stage.nurse,
+        contract: stage.contract,
         tariff: stage.tariff,
         charged: stage.charged,
     };
@@ -173,10 +168,9 @@ pub fn nurse_bound(
     ensures small { result ≤ 3 * not_allowed }
 {
     let stage = Stage::first(leaf, unit, tariff, nurse);
-    let _nurses = stage.instance.nurses();
     let past = stage.instance.past(nurse);
     let start = if pay_for_history(leaf) {
-        start_cost(tariff, stage.instance.contract(nurse), past)
+        start_cost(tariff, stage.contract, past)
     } else {
         0
     };

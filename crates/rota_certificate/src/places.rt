@@ -1,10 +1,9 @@
 //! The bounds of the places in a case. `unit` is the value of a point.
 
-ghost use Rattle.std.specs.Prelude.{◌≡◌, ◌≤◌, ◌<◌, ◌*◌, length};
-ghost use Rattle.rota_core.specs.InstanceTables.{IsInstance, problem_of};
-ghost use Rattle.rota_core.specs.Limits.{max_number, max_weeks};
-ghost use Rattle.rota_core.specs.PriceTables.{IsForWeek, prices_of};
+ghost use Rattle.std.specs.Prelude.{◌≡◌, ◌≤◌, ◌<◌, ◌*◌};
+ghost use Rattle.rota_core.specs.Limits.{max_weeks};
 ghost use Rattle.rota_core.specs.SumsBelow.{sum_below};
+ghost use Rattle.rota_core.specs.WeekTables.{IsDemand};
 ghost use Rattle.rota_rules.specs.OptimalCoverage.{optimum_weight};
 ghost use Rattle.rota_certificate.specs.CaseLimits.{IsLimitedCase, IsLimitedDemand, most_nurses};
 ghost use Rattle.rota_certificate.specs.LeafBounds.{leaf_place_bounds};
@@ -16,7 +15,7 @@ use crate::demand::{Place, case_demand};
 use crate::place_prices::PlacePrice;
 use crate::points::PointValue;
 use crate::stages::{LentLeaf, LentWeek};
-use rota_core::{Condition, DAYS, Demand, Instance};
+use rota_core::{Condition, DAYS, Demand};
 use rota_rules::OPTIMUM_WEIGHT;
 
 // The price of this number of nurses.
@@ -48,7 +47,7 @@ fn place_cost(unit: PointValue, demand: Demand, price: PlacePrice, nurses: u16) 
 
 // The minimum cost of the place with a number of nurses that is not below the minimum.
 fn place_bound(unit: PointValue, demand: Demand, price: PlacePrice) -> u64
-    requires demand { IsLimitedDemand most_nurses demand }
+    requires demand { IsLimitedDemand demand }
     ensures bound { result ≡ place_bound unit demand price }
     ensures small { result ≤ 20000000000000 }
 {
@@ -69,26 +68,13 @@ fn case_place_bound(
     price: PlacePrice,
 ) -> u64
     requires limited { IsLimitedCase case.now }
-    requires demand { IsLimitedDemand max_number demand }
+    requires demand { IsDemand demand }
     ensures bound { result ≡ case_place_bound unit case.now place.week place.day place.shift place.skill demand price }
     ensures small { result ≤ 30000000000000 }
 {
     let in_case = case_demand(case, place, demand);
     let missing = demand.optimal.saturating_sub(in_case.optimal);
     place_bound(unit, in_case, price) + missing_cost(unit, missing)
-}
-
-// The demand of the place. Its numbers are at most `MAX_NUMBER`.
-fn demand_at(instance: &Instance, day: u8, shift: u8, skill: u8) -> Demand
-    requires day_in { day < DAYS }
-    requires shift_in { shift < (problem_of instance.now).shifts }
-    requires skill_in { skill < (problem_of instance.now).skills }
-    ensures demand { result ≡ (problem_of instance.now).demand day shift skill }
-    ensures within { IsLimitedDemand max_number result }
-{
-    // The call shows that the week is within the limits.
-    let _nurses = instance.nurses();
-    instance.demand(day, shift, skill)
 }
 
 // The sum of the bounds of all skills of a day's shift type of the week with this number.
@@ -101,9 +87,6 @@ fn bounds_of_shift(
     shift: u8,
 ) -> u64
     requires limited { IsLimitedCase case.now }
-    requires day_in { day < DAYS }
-    requires shift_in { shift < (week_lent one.now).shifts }
-    requires shape { IsForWeek (week_lent one.now) one.now.prices.now }
     ensures bounds { result ≡ sum_below (week_lent one.now).skills (λ k.
         case_place_bound unit case.now week day shift k ((week_lent one.now).demand day shift k) (prices_lent one.now day shift k)) }
     ensures small { result ≤ 16 * 30000000000000 }
@@ -116,7 +99,7 @@ fn bounds_of_shift(
             shift,
             skill,
         };
-        let demand = demand_at(one.instance, day, shift, skill);
+        let demand = one.instance.demand(day, shift, skill);
         let price = PlacePrice::new(one.prices.price(day, shift, skill));
         sum += case_place_bound(unit, case, place, demand, price);
     }
@@ -132,8 +115,6 @@ fn bounds_of_day(
     day: u8,
 ) -> u64
     requires limited { IsLimitedCase case.now }
-    requires day_in { day < DAYS }
-    requires shape { IsForWeek (week_lent one.now) one.now.prices.now }
     ensures bounds { result ≡ sum_below (week_lent one.now).shifts (λ s. sum_below (week_lent one.now).skills (λ k.
         case_place_bound unit case.now week day s k ((week_lent one.now).demand day s k) (prices_lent one.now day s k))) }
     ensures small { result ≤ 16 * (16 * 30000000000000) }
@@ -148,7 +129,6 @@ fn bounds_of_day(
 // The sum of the bounds of all places of the week with this number.
 fn bounds_of_week(unit: PointValue, case: &[Condition], one: &LentWeek<'_>, week: usize) -> u64
     requires limited { IsLimitedCase case.now }
-    requires shape { IsForWeek (week_lent one.now) one.now.prices.now }
     ensures bounds { result ≡ case_place_bounds unit case.now week (week_lent one.now) (prices_lent one.now) }
     ensures small { result ≤ 7 * (16 * (16 * 30000000000000)) }
 {

@@ -1,10 +1,9 @@
 //! The rebates: the maximum price, less the price of a cell that the nurse may have.
 
-ghost use Rattle.std.specs.Prelude.{◌≡◌, ◌≤◌, ◌<◌, IfSome, Some};
+ghost use Rattle.std.specs.Prelude.{◌≡◌, ◌≤◌, ◌<◌, Some};
 ghost use Rattle.rota_core.specs.HardRules.{is_on};
 ghost use Rattle.rota_core.specs.InstanceTables.{problem_of};
-ghost use Rattle.rota_core.specs.PriceTables.{IsForWeek, prices_of};
-ghost use Rattle.rota_core.specs.Roster.{InWeek};
+ghost use Rattle.rota_core.specs.PriceTables.{prices_of};
 ghost use Rattle.rota_certificate.specs.Minimums.{not_allowed};
 ghost use Rattle.rota_certificate.specs.NurseBounds.{day_rebate, is_held_apart, is_held_apart_on, is_only_held, may_be_off, rebate};
 
@@ -15,9 +14,6 @@ pub const NOT_ALLOWED: u64 = 1_000_000_000_000_000;
 
 // Whether any of the nurse's cells on the shift type that day is held.
 fn is_held_on(instance: &Instance, nurse: u16, shift: u8, day: u8) -> bool
-    requires nurse_in { nurse < (problem_of instance.now).nurses }
-    requires shift_in { shift < (problem_of instance.now).shifts }
-    requires day_in { day < DAYS }
     ensures { let problem = problem_of instance.now in result ≡ is_on problem problem.is_held nurse shift day }
 {
     for skill in 0..instance.skills() {
@@ -35,8 +31,6 @@ fn is_held_on(instance: &Instance, nurse: u16, shift: u8, day: u8) -> bool
 
 /// Whether the nurse may be off that day: no cell of the day is held.
 pub fn may_be_off(instance: &Instance, nurse: u16, day: u8) -> bool
-    requires nurse_in { nurse < (problem_of instance.now).nurses }
-    requires day_in { day < DAYS }
     ensures { result ≡ may_be_off (problem_of instance.now) nurse day }
 {
     for shift in 0..instance.shifts() {
@@ -49,9 +43,6 @@ pub fn may_be_off(instance: &Instance, nurse: u16, day: u8) -> bool
 
 // Whether the nurse's cell of this other shift type and skill is held, and is not the cell.
 fn is_held_apart(instance: &Instance, cell: Cell, shift: u8, skill: u8) -> bool
-    requires cell_in { InWeek (problem_of instance.now) cell }
-    requires shift_in { shift < (problem_of instance.now).shifts }
-    requires skill_in { skill < (problem_of instance.now).skills }
     ensures { result ≡ is_held_apart (problem_of instance.now) cell.nurse cell.day cell.shift cell.skill shift skill }
 {
     let held = instance.held(Cell {
@@ -65,8 +56,6 @@ fn is_held_apart(instance: &Instance, cell: Cell, shift: u8, skill: u8) -> bool
 
 // Whether such a cell of the other shift type is held.
 fn is_held_apart_on(instance: &Instance, cell: Cell, shift: u8) -> bool
-    requires cell_in { InWeek (problem_of instance.now) cell }
-    requires shift_in { shift < (problem_of instance.now).shifts }
     ensures { result ≡ is_held_apart_on (problem_of instance.now) cell.nurse cell.day cell.shift cell.skill shift }
 {
     for skill in 0..instance.skills() {
@@ -79,7 +68,6 @@ fn is_held_apart_on(instance: &Instance, cell: Cell, shift: u8) -> bool
 
 // Whether the cell is held, and no other cell of the nurse's day.
 fn is_only_held(instance: &Instance, cell: Cell) -> bool
-    requires cell_in { InWeek (problem_of instance.now) cell }
     ensures { result ≡ is_only_held (problem_of instance.now) cell.nurse cell.day cell.shift cell.skill }
 {
     if !instance.held(cell) {
@@ -96,9 +84,7 @@ fn is_only_held(instance: &Instance, cell: Cell) -> bool
 /// The maximum price, less the price of the cell, if the nurse may have it. `free` says whether she
 /// may be off that day.
 pub fn rebate(instance: &Instance, prices: &Prices, free: bool, cell: Cell) -> u64
-    requires cell_in { InWeek (problem_of instance.now) cell }
     requires free_is { free ≡ may_be_off (problem_of instance.now) cell.nurse cell.day }
-    requires shape { IsForWeek (problem_of instance.now) prices.now }
     ensures rebate { result ≡ rebate (problem_of instance.now) (prices_of prices.now) cell.nurse cell.day cell.shift cell.skill }
     ensures small { result ≤ not_allowed }
 {
@@ -118,11 +104,7 @@ fn least_rebate(
     day: u8,
     shift: u8,
 ) -> u64
-    requires nurse_in { nurse < (problem_of instance.now).nurses }
-    requires day_in { day < DAYS }
-    requires shift_in { shift < (problem_of instance.now).shifts }
     requires free_is { free ≡ may_be_off (problem_of instance.now) nurse day }
-    requires shape { IsForWeek (problem_of instance.now) prices.now }
     ensures rebate { result ≡ day_rebate (problem_of instance.now) (prices_of prices.now) nurse day (Some shift) }
     ensures small { result ≤ not_allowed }
 {
@@ -147,10 +129,6 @@ pub fn day_rebate(
     day: u8,
     choice: Option<u8>,
 ) -> u64
-    requires nurse_in { nurse < (problem_of instance.now).nurses }
-    requires day_in { day < DAYS }
-    requires choice_in { IfSome choice (λ s. s < (problem_of instance.now).shifts) }
-    requires shape { IsForWeek (problem_of instance.now) prices.now }
     ensures rebate { result ≡ day_rebate (problem_of instance.now) (prices_of prices.now) nurse day choice }
     ensures small { result ≤ not_allowed }
 {

@@ -1,6 +1,6 @@
 //! The weeks of a leaf, as the search for a nurse's minimum goes through them.
 
-ghost use Rattle.std.specs.Prelude.{◌≡◌, ◌≤◌, ◌<◌, ◌&&◌, ◌||◌, not};
+ghost use Rattle.std.specs.Prelude.{◌≡◌, ◌<◌, ◌&&◌, ◌||◌, not};
 ghost use Rattle.rota_core.specs.InstanceTables.{problem_of};
 ghost use Rattle.rota_certificate.specs.LeafBounds.{nurse_count};
 ghost use Rattle.rota_certificate.specs.LentLeaves.{weeks_of};
@@ -8,7 +8,7 @@ ghost use Rattle.rota_certificate.specs.NurseBounds.{charge_totals, pay_for_hist
 
 use crate::points::PointValue;
 use crate::tariffs::Tariff;
-use rota_core::{Condition, Instance, Prices};
+use rota_core::{Condition, Contract, Instance, Prices};
 use std::marker::Model;
 
 /// A week and its prices.
@@ -40,7 +40,7 @@ impl<'a> Model for LentLeaf<'a> {
 }
 
 /// A week of a leaf in the search for a nurse's minimum: the week with its prices and its number in
-/// the leaf, the value of a point, the nurse and her tariff, and whether totals are charged.
+/// the leaf, the value of a point, the nurse with her contract and tariff, and whether totals are charged.
 #[derive(Drop)]
 pub struct Stage<'a> {
     pub instance: &'a Instance,
@@ -49,6 +49,7 @@ pub struct Stage<'a> {
     pub week: usize,
     pub unit: PointValue,
     pub nurse: u16,
+    pub contract: Contract,
     pub tariff: Tariff,
     pub charged: bool,
 }
@@ -116,6 +117,7 @@ impl<'a> Stage<'a> {
     {
         let charged = charge_totals(leaf);
         let first = leaf.weeks[0];
+        let contract = first.instance.contract(nurse);
         Stage {
             instance: first.instance,
             prices: first.prices,
@@ -123,6 +125,7 @@ impl<'a> Stage<'a> {
             week: 0,
             unit,
             nurse,
+            contract,
             tariff,
             charged,
         }

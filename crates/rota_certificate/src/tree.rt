@@ -5,10 +5,8 @@ ghost use Rattle.std.specs.List.{AllByRecursion, list_any};
 ghost use Rattle.rota_core.specs.Certificates.{IsLeafFor};
 ghost use Rattle.rota_core.specs.InstanceTables.{problem_of};
 ghost use Rattle.rota_core.specs.Limits.{max_number, max_price};
-ghost use Rattle.rota_core.specs.PriceTables.{prices_of};
-ghost use Rattle.rota_core.specs.Prices.{ArePrices};
 ghost use Rattle.rota_core.specs.TreeNodes.{leaf_of};
-ghost use Rattle.rota_certificate.specs.CertificateBounds.{HaveTables, least_bound, lower_bound, minimums_bound, rounded_up, says_even, says_odd};
+ghost use Rattle.rota_certificate.specs.CertificateBounds.{least_bound, lower_bound, minimums_bound, rounded_up, says_even, says_odd};
 ghost use Rattle.rota_certificate.specs.LeafBounds.{most_bound};
 ghost use Rattle.rota_certificate.specs.LentLeaves.{prices_lent, week_lent};
 ghost use Rattle.rota_certificate.specs.PeriodBounds.{AreEvidence, AreOptimalAt, HaveNoPlan, NoneCostLess};
@@ -65,24 +63,6 @@ impl<'a> Model for Evidence<'a> {
     ghost view = { evidence_of };
 
     ghost invariant = { λ e. IsEvidence (evidence_of e) };
-}
-
-// No price of these tables is above the maximum.
-fn check_tables(tables: &[Prices])
-    ensures { AllByRecursion (λ t. ArePrices (prices_of t)) tables.now }
-{
-    for table in tables {
-        let _shifts = table.shifts();
-    }
-}
-
-// No price of the certificate is above the maximum.
-fn check_lists(certificate: &Certificate)
-    ensures { HaveTables certificate.now }
-{
-    for list in &certificate.prices {
-        check_tables(list);
-    }
 }
 
 // The weeks with these prices.
@@ -232,7 +212,6 @@ pub fn lower_bound(
     ensures sound { IfOk result (NoneCostLess (map problem_of weeks.now) given.now) }
     ensures optimal { IfOk result (AreOptimalAt (map problem_of weeks.now) given.now) }
 {
-    check_lists(certificate);
     let evidence = Evidence {
         weeks,
         given,
@@ -256,7 +235,6 @@ pub fn no_plan_exists(
     ensures answer { IfOk result (λ is. is ≡ nat_lt 0 (minimums_bound (map problem_of weeks.now) given.now certificate.now)) }
     ensures sound { IfOk result (λ is. is ≡ true → HaveNoPlan (map problem_of weeks.now) given.now) }
 {
-    check_lists(certificate);
     let evidence = Evidence {
         weeks,
         given,

@@ -1,8 +1,9 @@
 -- The prices that a text spells are within the limits.
-use Rattle.std.proofs.Common.{◌≡◌, ℕ, zero, suc, ◌*◌, ◌≤◌, List, length, Ok, refl, arith}
+use Rattle.std.proofs.Common.{◌≡◌, ℕ, zero, suc, ◌*◌, ◌≤◌, List, [], ◌∷◌, length, slice_index_or, Ok, ap, arith}
+use Rattle.std.specs.List.{AllByRecursion}
 use Rattle.rota_core.specs.InstanceTables.{InstanceTables, problem_of}
 use Rattle.rota_core.specs.Limits.{max_price}
-use Rattle.rota_core.specs.PriceTables.{IsForWeek, PriceTables, IsPriceTables}
+use Rattle.rota_core.specs.PriceTables.{IsForWeek, PriceTables, IsPriceTables, price_index}
 use Rattle.rota_core.specs.ScenarioTables.{ScenarioTables}
 use Rattle.rota_layout.specs.Tokens.{Token}
 use Rattle.rota_layout.specs.Layout.{number, repeat}
@@ -31,20 +32,36 @@ unfolding Fills repeat
 price_rows-keep pairs t zero rows front last h k = rw h.1 k
 price_rows-keep pairs t (suc n) rows front last h k = price_rows-keep pairs t n h.0 h.2 last h.5 (price_row-keeps pairs t rows h.1 h.0 h.4 k)
 
--- a table that is read is a table of prices
-pub read-is_prices : (t : ScenarioTables) (last : ℕ) (all : List Token) (table : PriceTables) (after : Reading) →
-    read_layout (price_table t) (record { last = last; rest = all }) ≡ Ok (table, after) → IsPriceTables table
+-- a table that is spelled is a table of prices
+spelled-is_prices : (t : ScenarioTables) (front : List Token) (table : PriceTables) → Fills (price_table t) front table → IsPriceTables table
 unfolding Fills price_table
-read-is_prices t last all table after h =
+spelled-is_prices t front table h =
     -- the number of rows, the rows
-    let rows = (fills-read (price_table t) last all table after h).3.5 in
+    let rows = h.5 in
     let kept = price_rows-keep (length t.shifts * length t.skills) t _ (no_day_rows t) rows.1 rows.0 rows.4
     (no_rows-all IsPrice (length t.shifts * length t.skills)) in
     let are = day_table-all IsPrice 0 (omega arith) (length t.shifts) (length t.skills) rows.0 kept in
     rw rows.5.1 (record { prices = are.0; within = are.1 })
 
+-- so is a table that is read
+pub read-is_prices : (t : ScenarioTables) (last : ℕ) (all : List Token) (table : PriceTables) (after : Reading) →
+    read_layout (price_table t) (record { last = last; rest = all }) ≡ Ok (table, after) → IsPriceTables table
+read-is_prices t last all table after h =
+    let fills = fills-read (price_table t) last all table after h in
+    spelled-is_prices t fills.0 table fills.3
+
+any-within : (prices : List ℕ) (i : ℕ) → AllByRecursion IsPrice prices → slice_index_or prices i 0 ≤ max_price
+any-within [] i all = omega arith
+any-within (price ∷ prices) zero all = all.0
+any-within (price ∷ prices) (suc i) all = any-within prices i all.1
+
 -- a table that is spelled is for each week of the scenario
 pub table-for_week : (week : InstanceTables) (front : List Token) (table : PriceTables) → Fills (price_table week.scenario) front table →
     IsForWeek (problem_of week) table
 unfolding Fills price_table
-table-for_week week front table h = rw h.5.5.1 (record { shifts = refl; skills = refl })
+table-for_week week front table h = record {
+  shifts = ap (λ (t : PriceTables). t.shifts) h.5.5.1;
+  skills = ap (λ (t : PriceTables). t.skills) h.5.5.1;
+  within = λ d s k.
+      any-within table.prices (price_index table d s k) (spelled-is_prices week.scenario front table h).within;
+}

@@ -1,7 +1,6 @@
 //! Reads a certificate's file.
 
-ghost use Rattle.std.specs.Prelude.{◌≡◌, ◌+◌, ◌*◌, ◌-◌, ◌<◌, ◌≤◌, ◌^◌, [], codes, true, IfOk, IfErr, map};
-ghost use Rattle.rota_core.specs.Limits.{max_price};
+ghost use Rattle.std.specs.Prelude.{◌≡◌, ◌+◌, ◌*◌, ◌-◌, ◌<◌, ◌≤◌, ◌^◌, [], true, IfOk, IfErr, map};
 ghost use Rattle.rota_core.specs.TreeNodes.{leaf_of, node_of};
 ghost use Rattle.rota_core.specs.declared.fault.FileName.TheVariants as files;
 ghost use Rattle.rota_certificate_read.specs.FactsLayout.{keyword};

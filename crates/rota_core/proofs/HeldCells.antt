@@ -5,11 +5,10 @@ use Rattle.std.proofs.lemmas.List.{nil_from_length}
 use Rattle.std.proofs.lemmas.List.Elements.{All-from_recursion}
 use Rattle.std.specs.Prelude.{Option, false}
 use Rattle.std.specs.Option.{option_map_or}
-use Rattle.rota_core.specs.declared.values.Cell.{Cell}
 use Rattle.rota_core.specs.InstanceTables.{InstanceTables, IsInstance, problem_of}
 use Rattle.rota_core.specs.Roster.{InWeek}
 use Rattle.rota_core.specs.RosterCells.{cells_of}
-use Rattle.rota_core.specs.RosterCalls.{cells_in, InShape, count_of}
+use Rattle.rota_core.specs.RosterCalls.{cells_in, count_of}
 use Rattle.rota_core.specs.RosterTables.{RosterTables, HasShapeOf, set_of}
 use Rattle.rota_core.proofs.CellLists.{all-cells_of}
 use Rattle.rota_core.proofs.CellsByIndex.{cells_in-is}
@@ -19,15 +18,6 @@ module _ (t : InstanceTables) (valid : IsInstance t) where
   module _ (roster : RosterTables) (is : t.held ≡ Some roster) where
     shape : HasShapeOf (problem_of t) roster
     shape = (valid.held roster is).1
-
-    -- a cell of the week has an index in the held roster
-    pub InShape-held : (one : Cell) → InWeek (problem_of t) one → InShape roster one
-    InShape-held one inside = record {
-      nurse_in = rw shape inside.nurse_in;
-      day_in = inside.day_in;
-      shift_in = rw shape inside.shift_in;
-      skill_in = rw shape inside.skill_in;
-    }
 
     -- the number of held cells is the number of cells in the roster
     pub count-held : count_of roster ≡ length (cells_of (problem_of t) (problem_of t).is_held)

@@ -32,10 +32,13 @@ module _ (nurses shifts skills : ℕ) (bits : List Bool) (t : RosterTables) (see
   cell_index-in cell holds in_t = omega (arith, holds.enough, index-in cell in_t)
 
   -- the roster's set, read from the truth values
+  pub set_of-inside : (cell : Cell) → cell_index shifts skills cell < cell_count nurses shifts skills →
+      get_or bits (cell_index shifts skills cell) false ≡ set_of t cell
+  set_of-inside cell inside =
+      sym (get_or-take (cell_count nurses shifts skills) bits (cell_index shifts skills cell) false inside) ∙ ap (λ u. set_of u cell) seen
+
   pub set_of-seen : (cell : Cell) → InShape t cell → get_or bits (cell_index shifts skills cell) false ≡ set_of t cell
-  set_of-seen cell in_t =
-      sym (get_or-take (cell_count nurses shifts skills) bits (cell_index shifts skills cell) false (index-in cell in_t)) ∙
-      ap (λ u. set_of u cell) seen
+  set_of-seen cell in_t = set_of-inside cell (index-in cell in_t)
 
   -- one more truth value is one more cell
   pub AddsCell-set : (cell : Cell) → HoldsRoster nurses shifts skills bits → InShape t cell →

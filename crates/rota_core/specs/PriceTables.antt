@@ -4,7 +4,7 @@ use Rattle.std.specs.List.{AllByRecursion}
 use Rattle.rota_core.specs.Limits.{max_price}
 use Rattle.rota_core.specs.Sizes.{DAYS}
 use Rattle.rota_core.specs.Problem.{Problem}
-use Rattle.rota_core.specs.Prices.{Prices}
+use Rattle.rota_core.specs.Prices.{ArePrices, Prices}
 
 -- For S shift types and K skills, index (d*S+s)*K+k of `prices` is the price of day d, shift type s and skill k.
 pub record PriceTables : Type 0 where
@@ -25,10 +25,11 @@ price_index t d s k = (d * t.shifts + s) * t.skills + k
 abbrev pub prices_of : PriceTables → Prices
 prices_of t d s k = slice_index_or t.prices (price_index t d s k) 0
 
--- the table is for the week's shift types and skills
+-- the table is for the week's shift types and skills, and no price is above the maximum
 pub record IsForWeek (problem : Problem) (t : PriceTables) : Type 0 where
   pub shifts : t.shifts ≡ problem.shifts
   pub skills : t.skills ≡ problem.skills
+  pub within : ArePrices (prices_of t)
 
 -- the new table has the shape of the old one, the price at the place, and otherwise the prices of the old one
 pub record SetsPrice (old new : PriceTables) (day shift skill price : ℕ) : Type 0 where

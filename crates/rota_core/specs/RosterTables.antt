@@ -1,5 +1,5 @@
 -- A roster as a table of truth values: a set of cells of a week.
-use Rattle.std.specs.Prelude.{◌≡◌, ◌*◌, Bool, false, List, length, slice_index_or}
+use Rattle.std.specs.Prelude.{◌≡◌, Bool, false, List, length, slice_index_or}
 use Rattle.rota_core.specs.Limits.{AreLimited}
 use Rattle.rota_core.specs.Sizes.{Numbers}
 use Rattle.rota_core.specs.Roster.{Roster, cell}

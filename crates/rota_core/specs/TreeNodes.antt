@@ -1,5 +1,5 @@
 -- The nodes of a tree of cases in preorder, and the tree that nodes make.
-use Rattle.std.specs.Prelude.{◌≡◌, List, [], ◌∷◌, ◌++◌, map, refl, slice_index_or}
+use Rattle.std.specs.Prelude.{◌≡◌, List, [], ◌∷◌, ◌++◌, refl, slice_index_or}
 use Rattle.std.specs.Coded.{Coded, code_by, coded_list, codes}
 use Rattle.std.proofs.Common.{ap, sym, ◌∙◌}
 use Rattle.std.proofs.lemmas.List.{append-nil, append_assoc}

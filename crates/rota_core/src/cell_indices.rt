@@ -1,5 +1,5 @@
 //! The indices of the cells. Rosters store cells by index, and models number their variables by it.
-ghost use Rattle.std.specs.Prelude.{◌≡◌, ◌<◌, ◌≤◌};
+ghost use Rattle.std.specs.Prelude.{◌≡◌, ◌+◌, ◌<◌, ◌≤◌, ◌^◌};
 ghost use Rattle.rota_core.specs.CellIndex.{cell_index, cell_count};
 ghost use Rattle.rota_core.specs.RosterCells.{cell_at};
 
@@ -14,10 +14,8 @@ impl Instance {
     /// The index of the cell of nurse n, day d, shift type s and skill k: ((n * DAYS + d) * S + s) * K + k for S
     /// shift types and K skills.
     pub fn index_of(&self, cell: Cell) -> u32
-        requires { InWeek (problem_of self.now) cell }
         ensures index { let problem = problem_of self.now in result ≡ cell_index problem.shifts problem.skills cell }
-        ensures below { let problem = problem_of self.now in result < cell_count problem.nurses problem.shifts problem.skills }
-        ensures limits { IsInstance self.now }
+        ensures small { result + 1 < 2 ^ 32 }
     {
         index_of_cell(self.shifts(), self.skills(), cell)
     }
@@ -43,13 +41,10 @@ impl Instance {
 /// The index of the cell of nurse n, day d, shift type s and skill k, for these numbers of shift types and
 /// skills: ((n * DAYS + d) * shifts + s) * skills + k.
 pub(crate) fn index_of_cell(shifts: u8, skills: u8, cell: Cell) -> u32
-    requires nurse_in { cell.nurse < MAX_NURSES }
-    requires day_in { cell.day < DAYS }
     requires shifts_in { shifts ≤ MAX_SHIFTS }
     requires skills_in { skills ≤ MAX_SKILLS }
-    requires shift_in { cell.shift < shifts }
-    requires skill_in { cell.skill < skills }
-    ensures { result ≡ cell_index shifts skills cell }
+    ensures index { result ≡ cell_index shifts skills cell }
+    ensures small { result + 1 < 2 ^ 32 }
 {
     let day = u32::from(cell.nurse) * DAYS as u32 + u32::from(cell.day);
     let row = day * u32::from(shifts) + u32::from(cell.shift);

@@ -9,6 +9,7 @@ use crate::limits::{DAYS, MAX_NURSES, MAX_SHIFTS, MAX_SKILLS};
 use crate::roster::Roster;
 use crate::roster_cells::Cells;
 use crate::scenario::Scenario;
+use crate::tables::{NO_DEMAND, NO_PAST, value_at};
 use crate::values::{Cell, Contract, Demand, Past, Span};
 use crate::week::{Week, WeekParts};
 use std::marker::Model;
@@ -18,6 +19,9 @@ use std::mem;
 /// requests. All have the same nurses, shift types and skills. The instance also records whether excess is
 /// charged in each week, and the cells that are held. Nurses, shift types and skills are numbered from 0 in
 /// the order of the scenario's file, and days are 0 (Monday) to 6 (Sunday).
+///
+/// The getters accept every number. One that is not of the week finds what the table has at its index, which may
+/// belong to other numbers; after the end of the table it finds 0, `false` or `None`.
 pub struct Instance {
     scenario: Scenario,
     history: HistoryParts,
@@ -56,6 +60,7 @@ impl Instance {
     ghost use Rattle.rota_core.specs.RosterCells.{cells_of};
     ghost use Rattle.rota_core.specs.RosterTables.{HasShapeOf};
     ghost use Rattle.rota_core.specs.ScenarioTables.{numbers_of};
+    ghost use Rattle.rota_core.specs.WeekTables.{IsDemand, IsPast};
 
     /// The instance of these three tables, with no cell held. Returns `LateWeek` at line 0 of the history if
     /// the history's week number is not below the scenario's number of weeks. `early` says whether the excess
@@ -185,7 +190,6 @@ impl Instance {
 
     /// Whether the cell is held.
     pub fn held(&self, cell: Cell) -> bool
-        requires { InWeek (problem_of self.now) cell }
         ensures { result ≡ (problem_of self.now).is_held cell }
     {
         match &self.held {
@@ -217,24 +221,21 @@ impl Instance {
 
     /// The contract of the nurse.
     pub fn contract(&self, nurse: u16) -> Contract
-        requires { nurse < (problem_of self.now).nurses }
         ensures { result ≡ (problem_of self.now).contract nurse }
     {
         self.scenario.contract(nurse)
     }
 
-    /// The nurse's history from earlier weeks. Her last shift type, if there is one, is one of the week's.
+    /// The nurse's history from earlier weeks.
     pub fn past(&self, nurse: u16) -> Past
-        requires { nurse < (problem_of self.now).nurses }
         ensures past { result ≡ (problem_of self.now).past nurse }
-        ensures last_in { IfSome result.last (λ shift. shift < (problem_of self.now).shifts) }
+        ensures within { IsPast (problem_of self.now).shifts result }
     {
-        self.history.past[usize::from(nurse)]
+        value_at(&self.history.past, usize::from(nurse), NO_PAST)
     }
 
     /// The limits of consecutive assignments to the shift type.
     pub fn limits(&self, shift: u8) -> Span
-        requires { shift < (problem_of self.now).shifts }
         ensures { result ≡ (problem_of self.now).limits shift }
     {
         self.scenario.limits(shift)
@@ -242,8 +243,6 @@ impl Instance {
 
     /// Whether the second shift type may not follow the first on the next day.
     pub fn forbidden(&self, first: u8, second: u8) -> bool
-        requires first_in { first < (problem_of self.now).shifts }
-        requires second_in { second < (problem_of self.now).shifts }
         ensures { result ≡ (problem_of self.now).is_forbidden first second }
     {
         self.scenario.forbidden(first, second)
@@ -251,8 +250,6 @@ impl Instance {
 
     /// Whether the nurse has the skill.
     pub fn has_skill(&self, nurse: u16, skill: u8) -> bool
-        requires nurse_in { nurse < (problem_of self.now).nurses }
-        requires skill_in { skill < (problem_of self.now).skills }
         ensures { result ≡ (problem_of self.now).has_skill nurse skill }
     {
         self.scenario.has_skill(nurse, skill)
@@ -260,24 +257,21 @@ impl Instance {
 
     /// The minimum and the optimal number of nurses for the day, the shift type and the skill.
     pub fn demand(&self, day: u8, shift: u8, skill: u8) -> Demand
-        requires day_in { day < DAYS }
-        requires shift_in { shift < (problem_of self.now).shifts }
-        requires skill_in { skill < (problem_of self.now).skills }
-        ensures { result ≡ (problem_of self.now).demand day shift skill }
+        ensures demand { result ≡ (problem_of self.now).demand day shift skill }
+        ensures within { IsDemand result }
     {
         let row = usize::from(day) * usize::from(self.week.shifts) + usize::from(shift);
-        self.week.demands[row * usize::from(self.week.skills) + usize::from(skill)]
+        let index = row * usize::from(self.week.skills) + usize::from(skill);
+        value_at(&self.week.demands, index, NO_DEMAND)
     }
 
     /// The number of request rows that ask to keep the nurse off the shift type, or off every shift type, on the
     /// day.
     pub fn requests(&self, nurse: u16, day: u8, shift: u8) -> u16
-        requires nurse_in { nurse < (problem_of self.now).nurses }
-        requires day_in { day < DAYS }
-        requires shift_in { shift < (problem_of self.now).shifts }
         ensures { result ≡ (problem_of self.now).requests nurse day shift }
     {
         let row = usize::from(nurse) * DAYS as usize + usize::from(day);
-        self.week.requests[row * usize::from(self.week.shifts) + usize::from(shift)]
+        let index = row * usize::from(self.week.shifts) + usize::from(shift);
+        value_at(&self.week.requests, index, 0)
     }
 }

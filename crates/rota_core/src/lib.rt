@@ -39,6 +39,7 @@ mod roster;
 mod roster_cells;
 mod rule;
 mod scenario;
+mod tables;
 mod true_indices;
 mod values;
 mod week;

@@ -1,9 +1,10 @@
 //! The prices of the places of a week. A place is a day, a shift type and a skill.
 
-ghost use Rattle.std.specs.Prelude.{◌≡◌, ℕ, ◌≤◌, ◌<◌, IfOk, length};
+ghost use Rattle.std.specs.Prelude.{◌≡◌, ℕ, ◌+◌, ◌*◌, ◌≤◌, ◌<◌, IfOk, length};
 ghost use Rattle.rota_core.specs.Limits.{max_price};
 
 use crate::limits::DAYS;
+use crate::tables::value_at;
 use std::alloc::{AllocError, Global};
 use std::marker::Model;
 
@@ -35,6 +36,14 @@ impl Model for Prices {
     ghost view = { λ p. record { shifts = p.shifts; skills = p.skills; prices = p.prices.items } };
 
     ghost invariant = { λ p. IsPriceTables (record { shifts = p.shifts; skills = p.skills; prices = p.prices.items }) };
+}
+
+// The index of a place, for these numbers of shift types and skills.
+fn index_of_place(shifts: u8, skills: u8, day: u8, shift: u8, skill: u8) -> usize
+    ensures { result ≡ (day * shifts + shift) * skills + skill }
+{
+    let row = usize::from(day) * usize::from(shifts) + usize::from(shift);
+    row * usize::from(skills) + usize::from(skill)
 }
 
 impl Prices {
@@ -69,29 +78,24 @@ impl Prices {
 
     /// The number of shift types for which there are prices.
     pub fn shifts(&self) -> u8
-        ensures count { result ≡ self.now.shifts }
-        ensures table { IsPriceTables self.now }
+        ensures { result ≡ self.now.shifts }
     {
         self.shifts
     }
 
     /// The number of skills for which there are prices.
     pub fn skills(&self) -> u8
-        ensures count { result ≡ self.now.skills }
-        ensures table { IsPriceTables self.now }
+        ensures { result ≡ self.now.skills }
     {
         self.skills
     }
 
-    /// The price of the place.
+    /// The price of the place. A place outside the week may have the index of another.
     pub fn price(&self, day: u8, shift: u8, skill: u8) -> u32
-        requires day_in { day < DAYS }
-        requires shift_in { shift < self.now.shifts }
-        requires skill_in { skill < self.now.skills }
         ensures price { result ≡ prices_of self.now day shift skill }
         ensures within { result ≤ max_price }
     {
-        self.prices[self.index(day, shift, skill)]
+        value_at(&self.prices, self.index(day, shift, skill), 0)
     }
 
     /// Sets the price of the place. The other places keep theirs.
@@ -107,13 +111,9 @@ impl Prices {
     }
 
     fn index(&self, day: u8, shift: u8, skill: u8) -> usize
-        requires day_in { day < DAYS }
-        requires shift_in { shift < self.now.shifts }
-        requires skill_in { skill < self.now.skills }
         ensures index { result ≡ price_index self.now day shift skill }
-        ensures below { result < length self.now.prices }
+        ensures below { day < DAYS → shift < self.now.shifts → skill < self.now.skills → result < length self.now.prices }
     {
-        let row = usize::from(day) * usize::from(self.shifts) + usize::from(shift);
-        row * usize::from(self.skills) + usize::from(skill)
+        index_of_place(self.shifts, self.skills, day, shift, skill)
     }
 }

@@ -1,6 +1,6 @@
 //! A roster: a set of cells.
 
-ghost use Rattle.std.specs.Prelude.{◌≡◌, ◌<◌, ◌≤◌, Bool, not, IfOk, false, length, slice_index_or};
+ghost use Rattle.std.specs.Prelude.{◌≡◌, ◌<◌, ◌≤◌, not, IfOk, false, length, slice_index_or};
 ghost use Rattle.rota_core.specs.CellIndex.{cell_index, cell_count};
 
 use crate::bits::Bits;
@@ -101,12 +101,15 @@ impl Roster {
         is_new
     }
 
-    /// Whether the cell is in the roster.
+    /// Whether the cell is in the roster. A cell outside the roster's shape may have the index of another.
     pub fn has(&self, cell: Cell) -> bool
-        requires { InShape self.now cell }
         ensures { result ≡ set_of self.now cell }
     {
-        self.bits.get(index_of_cell(self.shifts, self.skills, cell))
+        let index = index_of_cell(self.shifts, self.skills, cell);
+        if index >= count_of_cells(self.nurses, self.shifts, self.skills) {
+            return false;
+        }
+        self.bits.get(index)
     }
 
     /// Whether the cell at the index is in the roster. `Instance::index_of` numbers the cells.

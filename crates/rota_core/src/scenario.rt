@@ -5,6 +5,7 @@ ghost use Rattle.rota_core.specs.Words.{index_of};
 
 use crate::limits::{MAX_NURSES, MAX_SHIFTS, MAX_SKILLS};
 use crate::names::{copy_names, index_of_name, name_at};
+use crate::tables::{NO_CONTRACT, NO_SPAN, value_at};
 use crate::values::{Contract, Span};
 use indexmap::IndexSet;
 use std::alloc::{AllocError, Global};
@@ -124,37 +125,33 @@ impl Scenario {
 
     /// Whether the nurse has the skill.
     pub(crate) fn has_skill(&self, nurse: u16, skill: u8) -> bool
-        requires nurse_in { nurse < length self.now.nurses }
-        requires skill_in { skill < length self.now.skills }
         ensures { result ≡ slice_index_or self.now.has_skill (nurse * length self.now.skills + skill) false }
     {
-        self.parts.has_skill[usize::from(nurse) * self.parts.skills.len() + usize::from(skill)]
+        let index = usize::from(nurse) * usize::from(self.skills()) + usize::from(skill);
+        value_at(&self.parts.has_skill, index, false)
     }
 
     /// The contract of the nurse.
     pub(crate) fn contract(&self, nurse: u16) -> Contract
-        requires { nurse < length self.now.nurses }
         ensures { result ≡ slice_index_or self.now.contracts (slice_index_or self.now.contract_of nurse 0) no_contract }
     {
-        let index = self.parts.contract_of[usize::from(nurse)];
-        self.parts.contracts[usize::from(index)]
+        let index = value_at(&self.parts.contract_of, usize::from(nurse), 0);
+        value_at(&self.parts.contracts, usize::from(index), NO_CONTRACT)
     }
 
     /// The limits of consecutive assignments to the shift type.
     pub(crate) fn limits(&self, shift: u8) -> Span
-        requires { shift < length self.now.shifts }
         ensures { result ≡ slice_index_or self.now.limits shift no_span }
     {
-        self.parts.limits[usize::from(shift)]
+        value_at(&self.parts.limits, usize::from(shift), NO_SPAN)
     }
 
     /// Whether the second shift type may not follow the first on the next day.
     pub(crate) fn forbidden(&self, first: u8, second: u8) -> bool
-        requires first_in { first < length self.now.shifts }
-        requires second_in { second < length self.now.shifts }
         ensures { result ≡ slice_index_or self.now.forbidden (first * length self.now.shifts + second) false }
     {
-        self.parts.forbidden[usize::from(first) * self.parts.shifts.len() + usize::from(second)]
+        let index = usize::from(first) * usize::from(self.shifts()) + usize::from(second);
+        value_at(&self.parts.forbidden, index, false)
     }
 
     /// The name of the scenario.

@@ -2,7 +2,7 @@
 use Rattle.rota_items.proofs.Common.Imports.{ℕ, List, [], ◌∷◌, AllByRecursion, AllByRecursion-append, AllByRecursion-concat_below}
 use Rattle.rota_items.proofs.Common.Imports.{AllByRecursion-singleton_if, Cell, Rule, Problem, LinearRow, Item, Objective, map, cells_of}
 use Rattle.rota_items.proofs.Common.Imports.{numbered_row, rule_rows, rows_of_hard_rule, hard_rules, h5_row, rows_of, item_rows, first_slack}
-use Rattle.rota_items.proofs.Common.Imports.{numbered_items, H1, H2, H3, H4, H5, h3_rows_of, flat_map}
+use Rattle.rota_items.proofs.Common.Imports.{numbered_items, H1, H2, H3, H4, H5, h3_rows_of}
 use Rattle.std.specs.Prelude.{◌≢◌, ◌+◌}
 use Rattle.rota_items.proofs.LogicWords.{all-flat_map, all-map}
 

@@ -4,7 +4,6 @@ use Rattle.std.specs.Prelude.{Option, Some, None, IfSome, List, [], ◌∷◌, �
 use Rattle.rota_core.specs.Sizes.{DAYS}
 use Rattle.rota_core.specs.declared.values.Cell.{Cell}
 use Rattle.rota_core.specs.Lists.{singleton_if}
-use Rattle.rota_core.specs.Roster.{InWeek}
 use Rattle.rota_core.specs.Problem.{Problem}
 use Rattle.rota_items.specs.CellEvents.{coefficient_of}
 use Rattle.rota_items.specs.Linear.{Term}
@@ -28,12 +27,6 @@ abbrev pub is_plain_of : DayProperty → Bool → Bool
 is_plain_of (Shift s) has = has
 is_plain_of Work has = has
 is_plain_of Off has = not has
-
--- the shift type is one of the week's
-abbrev pub IsPropertyOf : Problem → DayProperty → Type 0
-IsPropertyOf problem (Shift s) = s < problem.shifts
-IsPropertyOf problem Work = ⊤
-IsPropertyOf problem Off = ⊤
 
 -- the day before those with the property, and the day after them, if they must be without it
 abbrev pub day_before : DayPattern → List PatternDay
@@ -74,42 +67,8 @@ sum_terms problem (Demand d s k) = times (pos 1) (demand_cells problem d s k)
 sum_terms problem (PatternDays n property pattern) = flat_map (day_terms (property_of problem n property)) (days_of pattern)
 sum_terms problem (Total n sign) = times (coefficient_of sign) (nurse_cells problem n)
 
-pub record IsDayOf (problem : Problem) (n d : ℕ) : Type 0 where
-  pub nurse_in : n < problem.nurses
-  pub day_in : d < DAYS
-
-pub record IsShiftDayOf (problem : Problem) (n s d : ℕ) : Type 0 where
-  pub nurse_in : n < problem.nurses
-  pub shift_in : s < problem.shifts
-  pub day_in : d < DAYS
-
-pub record AreShiftPair (problem : Problem) (n d s t : ℕ) : Type 0 where
-  pub nurse_in : n < problem.nurses
-  pub day_in : d + 1 < DAYS
-  pub first_in : s < problem.shifts
-  pub second_in : t < problem.shifts
-
-pub record IsSkillOf (problem : Problem) (n k : ℕ) : Type 0 where
-  pub nurse_in : n < problem.nurses
-  pub skill_in : k < problem.skills
-
-pub record IsDemandOf (problem : Problem) (d s k : ℕ) : Type 0 where
-  pub day_in : d < DAYS
-  pub shift_in : s < problem.shifts
-  pub skill_in : k < problem.skills
-
-pub record AreDaysOf (problem : Problem) (n : ℕ) (property : DayProperty) (pattern : DayPattern) : Type 0 where
-  pub nurse_in : n < problem.nurses
-  pub property_in : IsPropertyOf problem property
-  pub days_in : IsInWeek pattern
-
--- the sum's numbers are within the week's
-abbrev pub IsSumOf : Problem → CellSum → Type 0
-IsSumOf problem (NurseDay n d) = IsDayOf problem n d
-IsSumOf problem (NurseDayShift n s d) = IsShiftDayOf problem n s d
-IsSumOf problem (ShiftPair n d s t) = AreShiftPair problem n d s t
-IsSumOf problem (Skill n k) = IsSkillOf problem n k
-IsSumOf problem (Single cell) = InWeek problem cell
-IsSumOf problem (Demand d s k) = IsDemandOf problem d s k
-IsSumOf problem (PatternDays n property pattern) = AreDaysOf problem n property pattern
-IsSumOf problem (Total n sign) = n < problem.nurses
+-- the sum's days are days of the week; other numbers may be any
+abbrev pub IsSumOf : CellSum → Type 0
+IsSumOf (ShiftPair n d s t) = d + 1 < DAYS
+IsSumOf (PatternDays n property pattern) = IsInWeek pattern
+IsSumOf _ = ⊤

@@ -1,8 +1,8 @@
 -- The meaning of the values that a walk sends.
-use Rattle.std.specs.Prelude.{ℕ, ◌<◌, List, map}
+use Rattle.std.specs.Prelude.{ℕ, List, map}
 use Rattle.rota_core.specs.declared.values.Cell.{Cell}
 use Rattle.rota_core.specs.Problem.{Problem}
-use Rattle.rota_items.specs.CellSums.{IsPropertyOf, property_of, sum_terms}
+use Rattle.rota_items.specs.CellSums.{property_of, sum_terms}
 use Rattle.rota_items.specs.Rows.{Item, LinearRow, Hard, numbered}
 use Rattle.rota_items.specs.RunItems.{Runs, pattern_item, Pattern}
 use Rattle.rota_items.specs.Variables.{cell_number}
@@ -35,11 +35,6 @@ numbered_rows problem rows = map (numbered_row problem) rows
 -- the row of a hard rule
 abbrev pub hard_row_of : Problem → HardRow → LinearRow Cell
 hard_row_of problem row = record { part = Hard row.rule; terms = sum_terms problem row.sum; degree = row.degree }
-
--- the charge's nurse and shift type are in the week
-pub record IsChargeOf (problem : Problem) (charge : RunCharge) : Type 0 where
-  pub nurse_in : charge.nurse < problem.nurses
-  pub property_in : IsPropertyOf problem charge.property
 
 -- the items that charge these patterns
 abbrev pub charged_items : Problem → RunCharge → List Pattern → List (Item Cell)

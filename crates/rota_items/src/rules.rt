@@ -30,7 +30,6 @@ fn visit_nurse<T: RunTaker>(
     rule: Rule,
     nurse: u16,
 ) -> Result<(), T::Fault>
-    requires nurse_in { nurse < (problem_of instance.now).nurses }
     ensures { let problem = problem_of instance.now in
         TakesItems T.ItemTaker problem (nurse_items problem rule nurse) taker.old taker.new result }
 {
@@ -119,7 +118,6 @@ pub fn has_cell_terms(instance: &Instance) -> bool
 // A nurse's part of a rule's constant, which no roster that keeps H1 can avoid, because of the history. It is
 // 0 except for the rules of totals, in the weeks in which they count.
 fn nurse_constant(instance: &Instance, rule: Rule, nurse: u16) -> u64
-    requires { nurse < (problem_of instance.now).nurses }
     ensures { result ≡ nurse_constant (problem_of instance.now) rule nurse }
 {
     match rule {

@@ -1,8 +1,8 @@
 //! Sends the terms of a `CellSum` to a taker.
-ghost use Rattle.std.specs.Prelude.{◌≡◌, ◌<◌, ◌≤◌, IsTrue, flat_map, if◌then◌else◌, pos, negsuc, count_by};
+ghost use Rattle.std.specs.Prelude.{◌≡◌, ◌+◌, ◌<◌, ◌≤◌, flat_map, if◌then◌else◌, pos, negsuc};
 ghost use Rattle.rota_core.specs.InstanceTables.{problem_of};
-ghost use Rattle.rota_items.specs.CellEvents.{cell_term_events, coefficient_of, sum_events};
-ghost use Rattle.rota_items.specs.CellSums.{AreShiftPair, IsInWeek, IsPropertyOf, IsSumOf, day_after, day_before, days_of, property_of, sum_terms};
+ghost use Rattle.rota_items.specs.CellEvents.{cell_term_events, coefficient_of};
+ghost use Rattle.rota_items.specs.CellSums.{IsInWeek, IsSumOf, day_after, day_before, days_of, property_of, sum_terms};
 ghost use Rattle.rota_items.specs.RunItems.{day_terms, days_with};
 ghost use Rattle.rota_items.specs.Takes.{Takes};
 
@@ -30,9 +30,6 @@ fn emit_day<T: Taker>(
     day: u8,
     has: bool,
 ) -> Result<(), T::Fault>
-    requires nurse_in { nurse < (problem_of instance.now).nurses }
-    requires property_in { IsPropertyOf (problem_of instance.now) property }
-    requires day_in { day < DAYS }
     ensures { let problem = problem_of instance.now in
         Takes T.Taker
         (cell_term_events problem (day_terms (property_of problem nurse property) (record { day = day; has = has })))
@@ -54,8 +51,6 @@ fn emit_days<T: Taker>(
     first: u8,
     end: u8,
 ) -> Result<(), T::Fault>
-    requires nurse_in { nurse < (problem_of instance.now).nurses }
-    requires property_in { IsPropertyOf (problem_of instance.now) property }
     requires ordered { first ≤ end }
     requires days_in { end ≤ DAYS }
     ensures { let problem = problem_of instance.now in
@@ -78,8 +73,6 @@ fn emit_day_before<T: Taker>(
     property: DayProperty,
     pattern: DayPattern,
 ) -> Result<(), T::Fault>
-    requires nurse_in { nurse < (problem_of instance.now).nurses }
-    requires property_in { IsPropertyOf (problem_of instance.now) property }
     requires days_in { IsInWeek pattern }
     ensures { let problem = problem_of instance.now in
         Takes T.Taker
@@ -102,8 +95,6 @@ fn emit_day_after<T: Taker>(
     property: DayProperty,
     pattern: DayPattern,
 ) -> Result<(), T::Fault>
-    requires nurse_in { nurse < (problem_of instance.now).nurses }
-    requires property_in { IsPropertyOf (problem_of instance.now) property }
     requires days_in { IsInWeek pattern }
     ensures { let problem = problem_of instance.now in
         Takes T.Taker
@@ -125,8 +116,6 @@ fn emit_pattern_days<T: Taker>(
     property: DayProperty,
     pattern: DayPattern,
 ) -> Result<(), T::Fault>
-    requires nurse_in { nurse < (problem_of instance.now).nurses }
-    requires property_in { IsPropertyOf (problem_of instance.now) property }
     requires days_in { IsInWeek pattern }
     ensures { let problem = problem_of instance.now in
         Takes T.Taker
@@ -149,7 +138,7 @@ fn emit_in_turn<T: Taker>(
     first: u8,
     second: u8,
 ) -> Result<(), T::Fault>
-    requires { AreShiftPair (problem_of instance.now) nurse day first second }
+    requires { day + 1 < DAYS }
     ensures { let problem = problem_of instance.now in
         Takes T.Taker (cell_term_events problem (sum_terms problem (CellSum.ShiftPair nurse day first second)))
         taker.old taker.new result }
@@ -161,7 +150,7 @@ fn emit_in_turn<T: Taker>(
 /// Sends the taker the terms of a sum of cells.
 #[tactic(auto, using(crate::proofs::Taking::taking), unfolding(crate::specs::CellEvents::cell_term_events, crate::specs::Events::term_events))]
 pub fn emit_sum<T: Taker>(instance: &Instance, taker: &mut T, sum: CellSum) -> Result<(), T::Fault>
-    requires { IsSumOf (problem_of instance.now) sum }
+    requires { IsSumOf sum }
     ensures { let problem = problem_of instance.now in
         Takes T.Taker (cell_term_events problem (sum_terms problem sum)) taker.old taker.new result }
 {

@@ -59,9 +59,6 @@ pub fn emit_on<T: Taker>(
     shift: u8,
     day: u8,
 ) -> Result<(), T::Fault>
-    requires nurse_in { nurse < (problem_of instance.now).nurses }
-    requires shift_in { shift < (problem_of instance.now).shifts }
-    requires day_in { day < DAYS }
     ensures { let problem = problem_of instance.now in
         Takes T.Taker (sum_events problem sign (on_cells problem nurse shift day)) taker.old taker.new result }
 {
@@ -86,8 +83,6 @@ pub fn emit_work<T: Taker>(
     nurse: u16,
     day: u8,
 ) -> Result<(), T::Fault>
-    requires nurse_in { nurse < (problem_of instance.now).nurses }
-    requires day_in { day < DAYS }
     ensures { let problem = problem_of instance.now in
         Takes T.Taker (sum_events problem sign (work_cells problem nurse day)) taker.old taker.new result }
 {
@@ -102,7 +97,6 @@ pub fn emit_nurse_cells<T: Taker>(
     sign: Sign,
     nurse: u16,
 ) -> Result<(), T::Fault>
-    requires { nurse < (problem_of instance.now).nurses }
     ensures { let problem = problem_of instance.now in
         Takes T.Taker (sum_events problem sign (nurse_cells problem nurse)) taker.old taker.new result }
 {
@@ -120,9 +114,6 @@ pub fn emit_demand_cells<T: Taker>(
     shift: u8,
     skill: u8,
 ) -> Result<(), T::Fault>
-    requires day_in { day < DAYS }
-    requires shift_in { shift < (problem_of instance.now).shifts }
-    requires skill_in { skill < (problem_of instance.now).skills }
     ensures { let problem = problem_of instance.now in
         Takes T.Taker (sum_events problem Sign.Plus (demand_cells problem day shift skill))
         taker.old taker.new result }
@@ -147,8 +138,6 @@ pub fn emit_skill_cells<T: Taker>(
     nurse: u16,
     skill: u8,
 ) -> Result<(), T::Fault>
-    requires nurse_in { nurse < (problem_of instance.now).nurses }
-    requires skill_in { skill < (problem_of instance.now).skills }
     ensures { let problem = problem_of instance.now in
         Takes T.Taker (sum_events problem Sign.Minus (skill_cells problem nurse skill))
         taker.old taker.new result }

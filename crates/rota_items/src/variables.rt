@@ -12,7 +12,6 @@ use rota_core::{Cell, DAYS, Instance};
 /// The variable of the cell of nurse n, day d, shift type s and skill k: ((n * DAYS + d) * S + s) * K + k + 1
 /// for S shift types and K skills. It is true if the nurse works there.
 pub fn cell_var(instance: &Instance, cell: Cell) -> u32
-    requires { InWeek (problem_of instance.now) cell }
     ensures { result ≡ cell_number (problem_of instance.now) cell }
 {
     instance.index_of(cell) + 1
@@ -21,8 +20,6 @@ pub fn cell_var(instance: &Instance, cell: Cell) -> u32
 /// The variable of the first cell of a nurse's day on a shift type. After it come the variables of her other
 /// cells on the shift type, then of her next shift types, then of her next days.
 pub fn first_var_on(instance: &Instance, nurse: u16, day: u8, shift: u8) -> u32
-    requires nurse_in { nurse < (problem_of instance.now).nurses }
-    requires day_in { day < DAYS }
     ensures number { result ≡ cell_number (problem_of instance.now) (cell nurse day shift 0) }
     ensures numbers_follow { result + max_cells_of_nurse < word_limit }
 {

@@ -8,6 +8,7 @@ pub mod ExtensionAnswer
 pub mod FaultTexts
 pub mod Feeding
 pub mod Meaning
+pub mod OpenFaults
 pub mod PeriodFaultTexts
 pub mod PeriodFaults
 pub mod Report

@@ -2,9 +2,11 @@
 ghost use Rattle.std.specs.Prelude.{◌≡◌, Some};
 ghost use Rattle.rota_pb.specs.Statuses.{exit_status};
 ghost use Rattle.rota_pb.specs.FaultTexts.{fault_text};
+ghost use Rattle.rota_pb.specs.OpenFaults.{fault_of_opening};
 ghost use Rattle.rota_pb.specs.RunParts.{fault_of_file};
 ghost use Rattle.rota_pb.specs.declared.fault.Fault.TheVariants.{Answer, Memory};
 
+use byte_ports::OpenFault;
 use rota_core::{FileFault, Rule};
 use solver_text::{AnswerFault, Status};
 use std::alloc::AllocError;
@@ -40,6 +42,17 @@ impl From<FileFault> for Fault {
         match fault {
             FileFault::Memory => Fault::Memory,
             bad => Fault::File(bad),
+        }
+    }
+}
+
+impl From<OpenFault> for Fault {
+    ghost from_gives = { λ unopened fault. fault ≡ fault_of_opening unopened };
+
+    fn from(fault: OpenFault) -> Fault {
+        match fault {
+            OpenFault::Memory => Fault::Memory,
+            OpenFault::Read => Fault::Read,
         }
     }
 }

@@ -2,10 +2,12 @@
 ghost use Rattle.std.specs.Prelude.{◌≡◌, ◌<◌, Some};
 ghost use Rattle.rota_pb.specs.PeriodFaults.{fault_in_week, period_status};
 ghost use Rattle.rota_pb.specs.PeriodFaultTexts.{period_fault_text};
+ghost use Rattle.rota_pb.specs.OpenFaults.{fault_of_opening};
 ghost use Rattle.rota_pb.specs.declared.period_fault.PeriodFault.TheVariants.{Run};
 ghost use Rattle.rota_pb.specs.declared.fault.Fault.TheVariants.{Memory};
 
 use crate::fault::{Fault, status_of};
+use byte_ports::OpenFault;
 use std::alloc::{AllocError, AllocFailed};
 use std::error::Error;
 use std::fmt;
@@ -26,6 +28,14 @@ impl From<Fault> for PeriodFault {
 
     fn from(fault: Fault) -> PeriodFault {
         PeriodFault::Run(fault)
+    }
+}
+
+impl From<OpenFault> for PeriodFault {
+    ghost from_gives = { λ unopened fault. fault ≡ Run (fault_of_opening unopened) };
+
+    fn from(fault: OpenFault) -> PeriodFault {
+        PeriodFault::Run(Fault::from(fault))
     }
 }
 

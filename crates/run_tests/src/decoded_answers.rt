@@ -3,10 +3,11 @@ use crate::changes::Edit::{Ends, Is, Line};
 use crate::changes::File::{Fix, His, Last, Sce, Week};
 use crate::changes::{Base, texts_of};
 use crate::jobs::{self, HISTORY, MONDAY, SCENARIO, WEDNESDAY, WEEK};
+use crate::reports::Report;
 use crate::tables::Wanted::{Bad, Decodes, Fails};
 use crate::tables::{Row, Wanted, check, of, rows};
 use crate::weeks::{ALL_DAYS, NOBODY, TWELVE};
-use rota_core::{FileName, Kind};
+use rota_core::{FileName, Kind, Rule};
 use rota_pb::Fault::{self, Answer, NoRoster, Unmet};
 use solver_text::AnswerFault::{BothValues, Literal, Objective, Range, StatusText, Statuses};
 use solver_text::Status;
@@ -19,22 +20,28 @@ pub const DECODING: Base = Base {
     inputs: [SCENARIO, HISTORY, WEEK, b"", b""],
 };
 
-// Costs of zero, and the start of a report on an answer that is not an optimum.
-const FREE: &[u8] = b"S1 0\nS2 0\nS3 0\nS4 0\nS5 0\nS6 0\nS7 0\n";
+// The report on an answer that costs nothing and is not an optimum.
+const PLAIN: Report = Report {
+    status: "SATISFIABLE",
+    objective: 0,
+    charges: &[],
+    last: None,
+};
 
-const PLAIN: &[u8] = b"status SATISFIABLE\nobjective 0\npenalty 0\n";
+const MONDAYS: Wanted = Decodes(MONDAY, PLAIN);
 
-const MONDAYS: Wanted = Decodes(&[MONDAY], &[PLAIN, FREE]);
+const NOBODYS: Wanted = Decodes(NOBODY, PLAIN);
 
-const NOBODYS: Wanted = Decodes(&[NOBODY], &[PLAIN, FREE]);
-
-const WEDNESDAYS: Wanted = Decodes(&[WEDNESDAY], &[PLAIN, FREE]);
+const WEDNESDAYS: Wanted = Decodes(WEDNESDAY, PLAIN);
 
 const EIGHTY: Wanted = Decodes(
-    &[ALL_DAYS],
-    &[
-        b"status SATISFIABLE\nobjective 80\npenalty 80\nS1 0\nS2 0\nS3 0\nS4 0\nS5 0\nS6 80\nS7 0\nlast o 80\n",
-    ],
+    ALL_DAYS,
+    Report {
+        objective: 80,
+        charges: &[(Rule::S6, 80)],
+        last: Some(80),
+        ..PLAIN
+    },
 );
 
 const ALL_DAYS_ANSWER: &[u8] =
@@ -47,17 +54,17 @@ const DECODED: &[Row] = rows! {
     "no end of the last line": [Last Is(b"s SATISFIABLE\nv x8")] => NOBODYS;
     "literals again": [Last Is(b"s SATISFIABLE\nv x8 -x2 x1 x8\nv -x2 x1\n")] => MONDAYS;
     "an objective with leading zeros": [Last Is(b"o 000000000000000001\ns SATISFIABLE\nv x8\n")] =>
-        Decodes(&[NOBODY], &[PLAIN, FREE, b"last o 1\n"]);
+        Decodes(NOBODY, Report { last: Some(1), ..PLAIN });
     "the last objective, with a sign": [Last Is(b"o 12\ns SATISFIABLE\no -7\nv x8\n")] =>
-        Decodes(&[NOBODY], &[PLAIN, FREE, b"last o -7\n"]);
+        Decodes(NOBODY, Report { last: Some(-7), ..PLAIN });
     "other lines, and ends of two bytes":
         [Last Is(b"c hello\r\nd 1 2\r\no 5\r\ns OPTIMUM FOUND\r\nv x1 -x2\r\nv -x3 x1 -x4\r\nv -x5 -x6 x8 \r\n")] =>
-        Decodes(&[MONDAY], &[b"status OPTIMUM FOUND\nobjective 0\npenalty 0\n", FREE, b"last o 5\n"]);
+        Decodes(MONDAY, Report { status: "OPTIMUM FOUND", last: Some(5), ..PLAIN });
     "a slack that nothing asks for": [Sce Line(6, b"Day (1,0)"), Last Is(b"s SATISFIABLE\nv x8 x9\n")] =>
-        Decodes(&[NOBODY], &[b"status SATISFIABLE\nobjective 15\npenalty 0\n", FREE]);
+        Decodes(NOBODY, Report { objective: 15, ..PLAIN });
     "a shift that nobody should work":
         [Sce Line(6, b"Day (1,0)"), Last Is(b"o 15\ns SATISFIABLE\nv x1 -x2 -x3 -x4 -x5 -x6 -x7 x8 x9 -x10\nv -x11 -x12 -x13 -x14 -x15\n")] =>
-        Decodes(&[MONDAY], &[b"status SATISFIABLE\nobjective 15\npenalty 15\nS1 0\nS2 15\nS3 0\nS4 0\nS5 0\nS6 0\nS7 0\nlast o 15\n"]);
+        Decodes(MONDAY, Report { objective: 15, charges: &[(Rule::S2, 15)], last: Some(15), ..PLAIN });
     "Wednesday held, and worked": [Fix Is(WEDNESDAY), Last Is(b"s SATISFIABLE\nv x8 x3\n")] => WEDNESDAYS;
 };
 

@@ -1,4 +1,5 @@
 //! The inputs and outputs of a run: one job of each kind, without and with held cells.
+use crate::soft_rules::{FREE, FREE_OPTIMUM};
 
 /// The kind of a run.
 #[derive(Clone, Copy, PartialEq, Eq, Debug)]
@@ -103,21 +104,7 @@ pub fn decoding() -> Job<'static> {
             b"",
             b"c hello\r\nd 1 2\r\no 5\r\ns OPTIMUM FOUND\r\nv x1 -x2\r\nv -x3 x1 -x4\r\nv -x5 -x6 x8 \r\n",
         ],
-        outputs: [
-            MONDAY,
-            b"status OPTIMUM FOUND
-objective 0
-penalty 0
-S1 0
-S2 0
-S3 0
-S4 0
-S5 0
-S6 0
-S7 0
-last o 5
-",
-        ],
+        outputs: [MONDAY, FREE_OPTIMUM],
     }
 }
 
@@ -179,20 +166,7 @@ pub fn decoding_held() -> Job<'static> {
             WEDNESDAY,
             b"s SATISFIABLE\nv x8 x3\n",
         ],
-        outputs: [
-            WEDNESDAY,
-            b"status SATISFIABLE
-objective 0
-penalty 0
-S1 0
-S2 0
-S3 0
-S4 0
-S5 0
-S6 0
-S7 0
-",
-        ],
+        outputs: [WEDNESDAY, FREE],
     }
 }
 

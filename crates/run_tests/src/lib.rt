@@ -6,8 +6,6 @@ mod changed_tokens;
 #[cfg(test)]
 mod changes;
 #[cfg(test)]
-mod charges;
-#[cfg(test)]
 mod counted_weeks;
 #[cfg(test)]
 mod decoded_answers;
@@ -32,10 +30,12 @@ mod performed_jobs;
 #[cfg(test)]
 mod refused_memory;
 #[cfg(test)]
+mod reports;
+#[cfg(test)]
 mod small_weeks;
+#[cfg(test)]
+mod soft_rules;
 #[cfg(test)]
 mod tables;
 #[cfg(test)]
 mod weeks;
-#[cfg(test)]
-mod worked_weeks;

@@ -2,10 +2,9 @@
 ghost use Rattle.std.specs.Prelude.{◌≡◌, None, Some, option_map};
 ghost use Rattle.std.specs.List.{find};
 ghost use Rattle.std.specs.Str.{bytes_eq};
-ghost use Rattle.inrc2pb_job.specs.Paths.{file_of, nothing};
+ghost use Rattle.byte_ports.specs.Paths.{file_of, nothing};
 
-use byte_ports::{CallPlan, MemorySource, MemoryTarget, PortFault, Target};
-use inrc2pb_job::{HasPath, Opens};
+use byte_ports::{CallPlan, HasPath, MemorySource, MemoryTarget, Opens, PortFault, Target};
 
 /// A file: its bytes, and its path.
 #[derive(Clone, Copy)]

@@ -3,7 +3,7 @@ use crate::job_runs::even;
 use crate::jobs::{self, Kind, jobs};
 use crate::memory_files::{MemoryFile, MemoryFiles, TargetAtPath};
 use byte_ports::{MemorySource, MemoryTarget};
-use inrc2pb_job::{Inputs, Job, perform};
+use inrc2pb_program::{Inputs, Job, perform};
 use rota_pb::Fault;
 use std::alloc::{AllocError, Global};
 use std::process::Abort;

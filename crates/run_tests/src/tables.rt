@@ -3,6 +3,7 @@
 use crate::changes::{Base, Changes, texts_of};
 use crate::job_runs::{even, outcome};
 use crate::jobs::Job;
+use crate::reports::Report;
 use byte_ports::MemoryTarget;
 use rota_core::{FileFault, FileName, Kind};
 use rota_pb::Fault;
@@ -18,7 +19,7 @@ pub enum Wanted<'a> {
     /// It writes this text to its one target.
     Writes(Pieces<'a>),
     /// It writes a solution, and the report.
-    Decodes(Pieces<'a>, Pieces<'a>),
+    Decodes(&'a [u8], Report<'a>),
     /// It writes nothing.
     Fails(Fault),
     /// It writes nothing: the file is at fault in this line.
@@ -117,7 +118,10 @@ pub fn check_run(
     let end = end_of(alloc, job)?;
     match wanted {
         Wanted::Writes(text) => check_texts(rt, &end, what, text, &[]),
-        Wanted::Decodes(solution, report) => check_texts(rt, &end, what, solution, report),
+        Wanted::Decodes(solution, report) => {
+            let text = report.text(alloc)?;
+            check_texts(rt, &end, what, &[solution], &[text.as_bytes()]);
+        }
         Wanted::Fails(fault) => check_fault(rt, &end, what, fault),
         Wanted::Bad(kind, file, line) => check_fault(rt, &end, what, bad(kind, file, line)),
     }

@@ -9,7 +9,6 @@
 ghost use Rattle.std.specs.Prelude.{◌≡◌, ◌<◌, IfOk};
 ghost use Rattle.rota_core.specs.InstanceTables.{problem_of};
 ghost use Rattle.rota_core.specs.ScenarioTables.{numbers_of};
-ghost use Rattle.rota_core.specs.Roster.{InWeek};
 
 use anyhow::{Context, Result, bail};
 use rota_core::{Cell, DAYS, History, Instance, Scenario, Week};
@@ -142,9 +141,7 @@ fn tell_place(rt: &impl Print, instance: &Instance, day: u8, shift: u8, skill: u
 }
 
 // Whether the nurse has the skill and, on Monday, her last shift does not forbid the shift type.
-fn fits(instance: &Instance, cell: Cell) -> bool
-    requires { InWeek (problem_of instance.now) cell }
-{
+fn fits(instance: &Instance, cell: Cell) -> bool {
     let forbidden = match instance.past(cell.nurse).last {
         Some(last) if cell.day == 0 => instance.forbidden(last, cell.shift),
         _ => false,

@@ -1,4 +1,5 @@
-"""The parser of the commands' words. An option is given once, as for `inrc2pb`, unless it may be repeated, and a wrong word gets a hint."""
+"""The parser of the commands' words. An option is given once, as for `inrc2pb`, unless it may be
+repeated, and a wrong word gets a hint."""
 
 import argparse
 import functools
@@ -6,7 +7,7 @@ import os
 import re
 import shlex
 import sys
-from typing import Any, Mapping, NoReturn, Optional, Sequence
+from typing import Any, List, Mapping, NoReturn, Optional, Sequence
 
 from ..programs.program import run_program
 from ..week.faults import Misuse
@@ -14,7 +15,8 @@ from ..week.slots import did_you_mean
 
 
 class _Once(argparse.Action):
-    """Stores the value of an option, or of a word without one. Raises ArgumentError if the option is given twice."""
+    """Stores the value of an option, or of a word without one. Raises ArgumentError if the option
+    is given twice."""
 
     def __call__(
         self,
@@ -45,7 +47,8 @@ class _Version(argparse.Action):
 
 
 class Parser(argparse.ArgumentParser):
-    """A parser that says how to correct a word that it does not know, and options that are missing."""
+    """A parser that says how to correct a word that it does not know, and options that are
+    missing."""
 
     def __init__(self, *words: Any, **named: Any) -> None:
         super().__init__(*words, **named)
@@ -112,8 +115,8 @@ def _about_words(unknown: str, given: Sequence[str]) -> str:
 
 
 def parser(description: str, epilog: Optional[str] = None, verb: str = "") -> Parser:
-    """A parser whose help keeps the lines of its description. An option has to be written out, as for `inrc2pb`. `verb` follows the name
-    of the command."""
+    """A parser whose help keeps the lines of its description. An option has to be written out, as
+    for `inrc2pb`. `verb` follows the name of the command."""
     command = os.path.basename(sys.argv[0])
     options = Parser(
         prog=f"{command} {verb}" if verb else command,
@@ -142,3 +145,21 @@ def check_verb(verb: str, verbs: Sequence[str]) -> None:
 def as_typed(words: Sequence[object]) -> str:
     """The words as a user types them in a shell."""
     return " ".join(shlex.quote(str(word)) for word in words)
+
+
+def options_first(words: Sequence[str]) -> List[str]:
+    """The words with the options before all others, as the parser wants them."""
+    options: List[str] = []
+    others: List[str] = []
+    for before, word in zip(["", *words], words):
+        is_value = before in (
+            "--time",
+            "--port",
+            "--host",
+            "--origin",
+            "--secret",
+            "--out",
+            "--credit",
+        )
+        (options if word.startswith("-") or is_value else others).append(word)
+    return [*options, *others]

@@ -1,4 +1,5 @@
-"""The verb `check` of `inrc2pb-roster`: names the first mistake of each file of a week and how to correct it, and warns of odd values."""
+"""The verb `check` of `inrc2pb-roster`: names the first mistake of each file of a week and how to
+correct it, and warns of odd values."""
 
 import argparse
 import os
@@ -26,13 +27,12 @@ from ..week.files import check_week_number, read_history, read_scenario, read_so
 from ..week.records import DAYS, Cell, History, Scenario, Week, WeekData
 from ..week.words import readable
 from ..week.writing import check_no_pipes
-from .arguments import Parser
-from .command import (
+from .arguments import Parser, parser
+from .week_options import (
     add_given_option,
     add_rosters_option,
     add_weeks_options,
     fix_files,
-    parser,
     the_week,
 )
 
@@ -40,7 +40,8 @@ Contents = TypeVar("Contents")
 
 
 class Check:
-    """A check of a week's files. It prints what it finds, counts the mistakes, and notes whether a roster is impossible."""
+    """A check of a week's files. It prints what it finds, counts the mistakes, and notes whether a
+    roster is impossible."""
 
     def __init__(self, given: argparse.Namespace) -> None:
         self.given = given
@@ -120,7 +121,8 @@ class Check:
         return data
 
     def all_files(self) -> Tuple[Optional[Week], List[Cell]]:
-        """Checks each file that is given: the week, if its three files have no mistake, and the held assignments."""
+        """Checks each file that is given: the week, if its three files have no mistake, and the
+        held assignments."""
         given = self.given
         scenario = self.reads(lambda: read_scenario(given.sce))
         if not scenario:
@@ -134,7 +136,8 @@ class Check:
         if data:
             for row in working_while_away(absences_of(data), held):
                 self.mistake(
-                    f"{self.fix_file}: {row.nurse} is away on {DAYS[row.day]}, and {row.shift} is held: remove one of the two"
+                    f"{self.fix_file}: {row.nurse} is away on {DAYS[row.day]}, and {row.shift} is"
+                    " held: remove one of the two"
                 )
         if given.tell and not self.mistakes:
             self.tell(scenario, history, data, held)
@@ -164,7 +167,8 @@ class Check:
         print(readable("\n".join(lines)))
 
     def model(self, week: Week, held: List[Cell]) -> None:
-        """Lets `inrc2pb` check the files too. If it cannot be run, the rosters are compared with `rules`, and a warning says so."""
+        """Lets `inrc2pb` check the files too. If it cannot be run, the rosters are compared with
+        `rules`, and a warning says so."""
         files = the_week(self.given)
         has_program = True
         try:
@@ -196,7 +200,8 @@ class Check:
 
 
 def _said(fault: ProgramFault) -> str:
-    """A fault of the program: of a file or a roster as the program says it, any other with advice."""
+    """A fault of the program: of a file or a roster as the program says it, any other with
+    advice."""
     return str(fault) if fault.status in (FAULT, BROKEN_RULE) else fault_line(fault)
 
 
@@ -210,9 +215,14 @@ def _compare(roster: Path, week: Week, held: List[Cell]) -> None:
 def options() -> Parser:
     """The parser of the verb."""
     checks = parser(
-        "Checks the files of a week: names the first mistake in each file and how to correct it, and prints warnings.",
-        "--sce is required. Ends with status 1 if a file has a mistake; a warning is not a mistake.\n"
-        "Example: inrc2pb-roster check $WEEK --roster roster.txt",
+        (
+            "Checks the files of a week: names the first mistake in each file and how to correct"
+            " it, and prints warnings."
+        ),
+        (
+            "--sce is required. Ends with status 1 if a file has a mistake; a warning is not a"
+            " mistake.\nExample: inrc2pb-roster check $WEEK --roster roster.txt"
+        ),
         "check",
     )
     add_weeks_options(checks, required=False)
@@ -231,7 +241,8 @@ def _check_options(given: argparse.Namespace) -> None:
     """Raises Misuse if options need others."""
     if not given.sce:
         raise Misuse(
-            "no scenario is given: give --sce FILE, and the files to check; is WEEK set in this terminal?"
+            "no scenario is given: give --sce FILE, and the files to check; is WEEK set in this"
+            " terminal?"
         )
     if len(given.week) > 1:
         raise Misuse(f"--week has {len(given.week)} files: check each week with its own history")

@@ -1,169 +1,32 @@
-"""The common part of the commands: the options of weeks' files, the end of a command after a fault, and the entry points."""
+"""The common part of the commands: their output, the end of a command after a fault or a signal,
+and the entry points."""
 
-import argparse
 import contextlib
 import errno
 import importlib
 import io
 import os
-import re
 import signal
 import sys
-from pathlib import Path
-from typing import Callable, Dict, Iterator, Optional, Sequence, TextIO, cast
+from typing import Callable, Iterator, Optional, TextIO, cast
 
+from ..programs.interrupts import Interrupted
 from ..programs.own_folder import own_folder
-from ..programs.program import FAULT, OUT_OF_MEMORY, READ_OR_WRITE, WeekFiles
+from ..programs.program import FAULT, OUT_OF_MEMORY, READ_OR_WRITE
 from ..week.faults import FileFault, FileFaults, Misuse, ProgramFault, fault_line, not_obeyed
-from .arguments import parser
 
-__all__ = [
-    "add_given_option",
-    "add_rosters_option",
-    "add_solver_option",
-    "add_weeks_options",
-    "check_seconds",
-    "fix_files",
-    "number_of_seconds",
-    "parser",
-    "print_painted",
-    "run",
-    "the_week",
-]
-
-# The exit statuses with which a shell reports that the signals PIPE and INT ended a command; that of another signal is its number more
-# than the base.
-BROKEN_PIPE, INTERRUPTED, SIGNAL_BASE = 141, 130, 128
-# The most seconds of a search, and the most faults of a file that are reported together.
-MAX_SECONDS, MAX_FAULTS = 10_000_000, 20
+# The exit status with which a shell reports that a signal ended a command is its number more than
+# the base.
+SIGNAL_BASE = 128
+BROKEN_PIPE = SIGNAL_BASE + signal.SIGPIPE
+# The most faults of a file that are reported together.
+MAX_FAULTS = 20
 MODULES = {"inrc2pb-plan": "plan", "inrc2pb-roster": "roster", "inrc2pb-solve": "solve"}
 
 
-def number_of_seconds(text: str) -> float:
-    """The number of seconds that an option gives."""
-    try:
-        return float(text)
-    except ValueError:
-        raise argparse.ArgumentTypeError(
-            f"'{text}' is no number: give seconds, such as 60 or 2.5"
-        ) from None
-
-
-def fix_files(texts: Sequence[str], weeks: int) -> Dict[int, Path]:
-    """The fix files of some weeks, by the week's index among this number of weeks, from 0.
-
-    Each is given as `N=FILE`, where N is 1 for the first week, or as `FILE` if there is only one week.
-    Raises Misuse if there is no such week, or if it has two files.
-    """
-    fixes: Dict[int, Path] = {}
-    for text in texts:
-        match = re.fullmatch("([0-9]{1,4})=(.+)", text, re.DOTALL)
-        if not match and weeks > 1:
-            raise Misuse(
-                f"--fix {text}: give the week's number, 1 for the first week, and its file, such as 1=promised.txt"
-            )
-        number, path = (int(match[1]), Path(match[2])) if match else (1, Path(text))
-        if not 1 <= number <= weeks:
-            last = (
-                "for the only week"
-                if weeks == 1
-                else f"for the first week, and {weeks} for the last"
-            )
-            raise Misuse(f"--fix {text}: there is no week {number}: give 1 {last}")
-        if number - 1 in fixes:
-            raise Misuse(
-                f"--fix {text}: week {number} has the file {fixes[number - 1]}: put all rows into one file"
-            )
-        fixes[number - 1] = path
-    return fixes
-
-
-def add_weeks_options(options: argparse.ArgumentParser, required: bool = True) -> None:
-    """The options that name the files of one or more weeks, as `inrc2pb-bound` has them."""
-    options.add_argument("--sce", metavar="FILE", type=Path, required=required, help="the scenario")
-    options.add_argument(
-        "--his",
-        metavar="FILE",
-        type=Path,
-        required=required,
-        help="the history with which the first week begins",
-    )
-    options.add_argument(
-        "--week",
-        metavar="FILE",
-        type=Path,
-        nargs="+",
-        action="extend",
-        default=None if required else [],
-        required=required,
-        help="the requirements and requests of each week, in order",
-    )
-    options.add_argument(
-        "--fix",
-        metavar="[N=]FILE",
-        action="append",
-        default=[],
-        help="assignments to keep, as a solution file: the rows of a roster that are fixed, with their number after ASSIGNMENTS; of week N "
-        "of several as N=FILE, where N is 1 for the first week that is given",
-    )
-    options.add_argument(
-        "--early",
-        action="store_true",
-        help="charge excess assignments and weekends as soon as they occur",
-    )
-
-
-def add_rosters_option(options: argparse.ArgumentParser, asks: str, required: bool = False) -> None:
-    """The option that names a roster of each week."""
-    options.add_argument(
-        "--roster",
-        metavar="FILE",
-        type=Path,
-        nargs="+",
-        action="extend",
-        default=None if required else [],
-        required=required,
-        help=asks,
-    )
-
-
-def add_given_option(options: argparse.ArgumentParser) -> None:
-    """The option that names the facts that plans keep."""
-    asks = "facts about the period to keep: absences, and limits that hold"
-    options.add_argument("--given", dest="facts", metavar="FILE", type=Path, help=asks)
-
-
-def add_solver_option(options: argparse.ArgumentParser) -> None:
-    """The option that names a solver for whole weeks."""
-    solver = (
-        "clasp, cbc, or a command that solves the whole week in place of this search, with {opb} or {lp} for the model, {sol} for the "
-        "result file, if it does not print its answer, and {seconds}"
-    )
-    options.add_argument("--solver", metavar="COMMAND", help=solver)
-
-
-def check_seconds(seconds: float, option: str) -> None:
-    """Raises Misuse if a search with this limit would not end."""
-    if not 0 < seconds <= MAX_SECONDS:
-        raise Misuse(f"{option} has to be a number of seconds above 0, and at most {MAX_SECONDS}")
-
-
-def the_week(given: argparse.Namespace) -> WeekFiles:
-    """The files of the only week that the options of `add_weeks_options` name. Raises Misuse if they name several weeks."""
-    if len(given.week) != 1:
-        raise Misuse(f"--week has {len(given.week)} files: give one")
-    return WeekFiles(
-        given.sce,
-        given.his,
-        given.week[0],
-        fix=fix_files(given.fix, 1).get(0),
-        early=given.early,
-        given=vars(given).get("facts"),
-    )
-
-
 class _Output(io.TextIOWrapper):
-    """Standard output. On a terminal it shows the codes of signs that a terminal would obey, such as one that changes its colors."""
+    """Standard output. On a terminal it shows the codes of signs that a terminal would obey, such
+    as one that changes its colors."""
 
     def write(self, text: str) -> int:
         """Writes the text."""
@@ -183,7 +46,8 @@ def print_painted(text: str) -> None:
 
 
 class _Remarks(_Output):
-    """Standard error in UTF-8. A remark that cannot be written, as to a full disk, is lost, and the command goes on."""
+    """Standard error in UTF-8. A remark that cannot be written, as to a full disk, is lost, and the
+    command goes on."""
 
     def write(self, text: str) -> int:
         """Writes the text if that is possible."""
@@ -198,7 +62,8 @@ class _Remarks(_Output):
 
 
 class _Closed(io.TextIOBase):
-    """A standard output that was closed, as by `>&-`: each write is a fault, and so is the next flush, if nobody has heard of the write."""
+    """A standard output that was closed, as by `>&-`: each write is a fault, and so is the next
+    flush, if nobody has heard of the write."""
 
     def __init__(self) -> None:
         super().__init__()
@@ -211,7 +76,8 @@ class _Closed(io.TextIOBase):
 
     def flush(self) -> None:
         """Raises the fault of a write."""
-        is_lost, self._is_lost = self._is_lost, False
+        is_lost = self._is_lost
+        self._is_lost = False
         if is_lost:
             raise OSError(errno.EBADF, "it is closed", "standard output")
 
@@ -238,7 +104,8 @@ def _standard_output(stream: Optional[TextIO]) -> TextIO:
 
 
 def _standard_error(stream: Optional[TextIO]) -> TextIO:
-    """The stream, of which no write fails from now on. One of a script, without a descriptor, stays as it is."""
+    """The stream, of which no write fails from now on. One of a script, without a descriptor, stays
+    as it is."""
     stream = stream or open(os.devnull, "w")
     try:
         unbuffered = open(stream.fileno(), "wb", buffering=0, closefd=False)
@@ -253,7 +120,8 @@ def _standard_error(stream: Optional[TextIO]) -> TextIO:
 
 
 def run(main: Callable[[], Optional[int]]) -> None:
-    """Runs a command and exits: each fault is one line on standard error, with status 1 or the program's own."""
+    """Runs a command and exits: each fault is one line on standard error, with status 1 or the
+    program's own."""
     name = os.path.basename(sys.argv[0])
     sys.stdout = _standard_output(sys.stdout)
     sys.stderr = _standard_error(sys.stderr)
@@ -266,8 +134,11 @@ def run(main: Callable[[], Optional[int]]) -> None:
     except BrokenPipeError:
         os.dup2(os.open(os.devnull, os.O_WRONLY), 1)
         status = BROKEN_PIPE
-    except KeyboardInterrupt:
-        status = INTERRUPTED
+    except KeyboardInterrupt as ended:
+        by = ended if isinstance(ended, Interrupted) else Interrupted(signal.SIGINT)
+        if by.message:
+            print(f"{name}: {by.message}", file=sys.stderr)
+        status = SIGNAL_BASE + by.number
     except ProgramFault as fault:
         print(f"{name}: {fault_line(fault)}", file=sys.stderr)
         status = fault.status if 0 < fault.status < 256 else FAULT
@@ -290,7 +161,8 @@ def run(main: Callable[[], Optional[int]]) -> None:
 
 
 def _status_of(main: Callable[[], Optional[int]]) -> int:
-    """Runs a command; its exit status. After `--help` its parser exits: what it has printed is not written yet."""
+    """Runs a command; its exit status. After `--help` its parser exits: what it has printed is not
+    written yet."""
     try:
         return main() or 0
     except SystemExit as end:
@@ -300,8 +172,9 @@ def _status_of(main: Callable[[], Optional[int]]) -> int:
 
 
 def _catch_signals() -> None:
-    """From now on Ctrl-C is a KeyboardInterrupt again: before, while a command starts, it ends the process without a word. TERM and HUP
-    end the command too, and no temporary file is left. The statuses of children are kept, also if the caller ignores them.
+    """From now on Ctrl-C is a KeyboardInterrupt again: before, while a command starts, it ends the
+    process without a word. TERM and HUP end the command too, and no temporary file is left. The
+    statuses of children are kept, also if the caller ignores them.
     """
     if signal.getsignal(signal.SIGINT) == signal.SIG_DFL:
         signal.signal(signal.SIGINT, signal.default_int_handler)
@@ -312,13 +185,14 @@ def _catch_signals() -> None:
 
 
 def _ignore_signals() -> None:
-    """All is done: a signal that comes while the own folder is removed, or while Python ends, does not change the status."""
+    """All is done: a signal that comes while the own folder is removed, or while Python ends, does
+    not change the status."""
     for number in (signal.SIGINT, signal.SIGTERM, signal.SIGHUP):
         signal.signal(number, signal.SIG_IGN)
 
 
 def _end(number: int, _frame: object) -> None:
-    raise SystemExit(SIGNAL_BASE + number)
+    raise Interrupted(number)
 
 
 def _drop_output() -> None:

@@ -1,4 +1,5 @@
-"""`inrc2pb-solve --inrc2`: the command line of the competition INRC-II, `--sce F --his F --week F --sol F [..]`."""
+"""`inrc2pb-solve --inrc2`: the command line of the competition INRC-II,
+`--sce F --his F --week F --sol F [..]`."""
 
 import argparse
 import os
@@ -22,17 +23,20 @@ from ..week.faults import Misuse, ProgramFault
 from ..week.files import solution_text
 from ..week.records import WEEK_DAYS, Cell, Solution
 from ..week.writing import check_inputs_stay, check_no_pipes, check_target, write_text
-from .arguments import Parser
-from .command import add_solver_option, check_seconds, number_of_seconds, parser
+from .arguments import Parser, parser
+from .week_options import add_solver_option, check_seconds, number_of_seconds
 
-# The minimum of seconds, and of the share of the time, for the last check, the file and the end of Python.
-END_SECONDS, END_SHARE = 0.5, 0.05
+# The minimum of seconds, and of the share of the time, for the last check, the file and the end of
+# Python.
+END_SECONDS = 0.5
+END_SHARE = 0.05
 # A search takes at least this, even if the time is over.
 LEAST_SECONDS = 0.2
 
 
 def seconds_since_start() -> float:
-    """The seconds by the clock since this process began; if the system does not say, the seconds of processor time."""
+    """The seconds by the clock since this process began; if the system does not say, the seconds of
+    processor time."""
     try:
         words = (
             Path("/proc/self/stat")
@@ -46,16 +50,20 @@ def seconds_since_start() -> float:
 
 
 def search_seconds(timeout: float, used: float) -> float:
-    """The seconds to search, if the process has to end after `timeout` seconds and has used some of them."""
+    """The seconds to search, if the process has to end after `timeout` seconds and has used some of
+    them."""
     return max(LEAST_SECONDS, timeout - max(END_SECONDS, END_SHARE * timeout) - used)
 
 
 def plan_ahead(
-    weeks: PlannedWeeks, solution: Path, seconds: float
+    weeks: PlannedWeeks, solution: Path, seconds: float, inputs: Sequence[Path]
 ) -> Tuple[Report, Optional[BaseException]]:
-    """Plans the week, which is the first of all weeks that are left, and writes its roster. Also returns the fault that ended the search
-    after the roster was found."""
-    week, file, text = weeks.history.week, KeptFile(solution), ""
+    """Plans the week, which is the first of all weeks that are left, and writes its roster, which
+    takes the place of no input. Also returns the fault that ended the search after the roster was
+    found."""
+    week = weeks.history.week
+    file = KeptFile(solution, inputs)
+    text = ""
 
     def keep(cells: Sequence[Cell]) -> None:
         nonlocal text
@@ -83,9 +91,11 @@ def plan_ahead(
 def _planned(
     given: argparse.Namespace, weeks: PlannedWeeks, seconds: float
 ) -> Tuple[Report, Optional[BaseException]]:
-    """The report of the week's roster, and the fault that ended its search after the roster was found."""
+    """The report of the week's roster, and the fault that ended its search after the roster was
+    found."""
+    inputs = [given.sce, given.his, given.week]
     if weeks.later() and not given.solver:
-        return plan_ahead(weeks, given.sol, seconds)
+        return plan_ahead(weeks, given.sol, seconds, inputs)
     files = replace(weeks.week_files(weeks.history.week), early=bool(given.solver))
     outcome = search(
         files,
@@ -95,6 +105,7 @@ def _planned(
         solver=given.solver,
         proof=None,
         progress=Progress(None),
+        originals=inputs,
     )
     return outcome.report, outcome.fault
 
@@ -102,10 +113,15 @@ def _planned(
 def options() -> Parser:
     """The parser of `--inrc2`."""
     competition = parser(
-        "Plans one week, with the command line that the simulator of the competition INRC-II calls: as the first week of a plan of\n"
-        "all weeks that are left. The later ones are not known, and count with the numbers of this one.",
-        "--cusIn and --cusOut carry a solver's own data from week to week. This one keeps none: it reads no --cusIn, and writes\n"
-        "the number of the next week to --cusOut.",
+        (
+            "Plans one week, with the command line that the simulator of the competition INRC-II"
+            " calls: as the first week of a plan of\nall weeks that are left. The later ones are"
+            " not known, and count with the numbers of this one."
+        ),
+        (
+            "--cusIn and --cusOut carry a solver's own data from week to week. This one keeps none:"
+            " it reads no --cusIn, and writes\nthe number of the next week to --cusOut."
+        ),
     )
     competition.add_argument(
         "--inrc2",
@@ -161,7 +177,8 @@ def main(given: argparse.Namespace) -> int:
         check_inputs_stay(files.all(), given.cusOut, "the number of the next week")
         if os.path.realpath(given.sol) == os.path.realpath(given.cusOut) != os.devnull:
             raise Misuse(
-                f"{given.sol} gets the roster, so the number of the next week cannot be written to it: choose another file"
+                f"{given.sol} gets the roster, so the number of the next week cannot be written to"
+                " it: choose another file"
             )
     seconds = search_seconds(given.timeout, seconds_since_start())
     progress = Progress(sys.stderr, inputs.named)

@@ -6,28 +6,32 @@ import sys
 import tempfile
 from pathlib import Path
 
-from .arguments import Parser
-from .command import add_weeks_options, parser, the_week
-from ..judging.constraints import names_of
 from ..judging.breaches import read_held
+from ..judging.constraints import names_of
 from ..programs.program import encode
 from ..week.faults import Misuse
 from ..week.files import read_files
 from ..week.writing import check_inputs_stay
 from ..week.writing import replacing
+from .arguments import Parser, parser
+from .week_options import add_weeks_options, the_week
 
 
 def options() -> Parser:
     """The parser of the verb."""
     names = parser(
-        "Lists each variable and each constraint of a week's model in words, one on a line: the cells first, and after each constraint\n"
-        "its slacks, with what they cost.",
-        "The model has to be the one that `inrc2pb encode` writes for these files, also with --fix and --early.\n"
-        "Example: inrc2pb-roster names week.opb $WEEK --out names.txt",
+        (
+            "Lists each variable and each constraint of a week's model in words, one on a line: the"
+            " cells first, and after each constraint\nits slacks, with what they cost."
+        ),
+        (
+            "The model has to be the one that `inrc2pb encode` writes for these files, also with"
+            " --fix and --early.\nExample: inrc2pb-roster names week.opb $WEEK --out names.txt"
+        ),
         "names",
     )
-    names.add_argument("model", metavar="FILE", type=Path, help="the model, right after the verb")
-    add_weeks_options(names)
+    names.add_argument("model", metavar="FILE", type=Path, help="the model")
+    add_weeks_options(names, one=True)
     names.add_argument(
         "--out", metavar="FILE", type=Path, help="write to this file, not to standard output"
     )
@@ -50,7 +54,8 @@ def main(given: argparse.Namespace) -> int:
         encode(files, model)
         if not filecmp.cmp(model, given.model, shallow=False):
             raise Misuse(
-                f"{given.model} is not the model of this week: give the files of which it was made, and --fix and --early as then"
+                f"{given.model} is not the model of this week: give the files of which it was made,"
+                " and --fix and --early as then"
             )
         with open(model, encoding="ascii") as lines:
             names = (f"{line}\n" for line in names_of(lines, week, held, files.early))

@@ -17,7 +17,7 @@ from ..search.improving import SearchResult, search
 from ..search.period_search import PeriodSearch
 from ..search.plan_folder import PlanFolder
 from ..search.planned_weeks import PeriodFiles, PlannedWeeks, WrittenWeek, history_name, roster_name
-from ..week.faults import FileFault, Misuse, ProgramFault, fault_line
+from ..week.faults import FileFault, Misuse, ProgramFault, Stopped, fault_line
 from ..week.files import read_solution, write_history
 from ..week.records import Cell, Scenario, Solution, in_plan, week_name
 from ..week.soft_rules import SOFT_RULES
@@ -27,10 +27,12 @@ from .arguments import as_typed
 
 
 class Period:
-    """A period that is planned: its reports by the histories' numbers of weeks, in order, and the lines about its lower bound.
+    """A period that is planned: its reports by the histories' numbers of weeks, in order, and the
+    lines about its lower bound.
 
-    `proof` is the file for the certificate of the bound, if any; the `seed` begins the random choices of the search. `starts` has a roster
-    of each week to begin with; without it the search begins with those of the folder.
+    `proof` is the file for the certificate of the bound, if any; the `seed` begins the random
+    choices of the search. `starts` has a roster of each week to begin with; without it the search
+    begins with those of the folder.
     """
 
     def __init__(
@@ -42,13 +44,11 @@ class Period:
         starts: Sequence[Path] = (),
     ) -> None:
         check_no_pipes((*files.all(), *starts))
-        self.folder, self._proof, self._seed, self._files, self._inputs = (
-            folder,
-            proof,
-            seed,
-            files,
-            Inputs(),
-        )
+        self.folder = folder
+        self._proof = proof
+        self._seed = seed
+        self._files = files
+        self._inputs = Inputs()
         self.progress = Progress(sys.stderr, self._inputs.named)
         with self._inputs.naming():
             self.weeks = PlannedWeeks(files.copied(self._inputs.copy))
@@ -57,11 +57,12 @@ class Period:
                 _read_start(self._inputs.copy(path), number, self.weeks.scenario)
                 for number, path in zip(self.numbers, starts)
             ]
-        self._plan_folder = PlanFolder(self.weeks, folder, self.progress.warn)
+        self._plan_folder = PlanFolder(self.weeks, folder, self.progress.warn, files.all())
         if starts and len(starts) != len(self.numbers):
             weeks = plural(len(self.numbers), "week")
             raise Misuse(
-                f"--roster has {plural(len(starts), 'file')} for {weeks}: give one for each, in their order"
+                f"--roster has {plural(len(starts), 'file')} for {weeks}: give one for each, in"
+                " their order"
             )
         self.reports: Dict[int, Report] = {}
         self.bound_lines: List[str] = []
@@ -87,7 +88,8 @@ class Period:
         _make_folder(folder)
 
     def locked(self, wait: bool) -> ContextManager[None]:
-        """Within the block no other search writes the rosters. Raises ProgramFault if one does, or waits until it has ended."""
+        """Within the block no other search writes the rosters. Raises ProgramFault if one does, or
+        waits until it has ended."""
         return locked(self._plan_folder.rosters, wait, self.progress.warn)
 
     def name_replaced(self) -> None:
@@ -103,15 +105,11 @@ class Period:
 
     def plan_together(self, seconds: float) -> None:
         """Plans all weeks together. If the user stops it, the best plan until then is reported."""
-        first, last = self.numbers[0] + 1, self.numbers[-1] + 1
-        _say(
-            f"week {first}, at most {seconds:g} s"
-            if first == last
-            else f"weeks {first} to {last} together, at most {seconds:g} s"
-        )
+        _say(_begin_text(self.numbers, "together", seconds))
         for hint in self.weeks.hints:
             self.progress.warn(hint)
-        folder, earlier = self._plan_folder, self._earlier()
+        folder = self._plan_folder
+        earlier = self._earlier()
         others = folder.others if not self.weeks.later() else lambda: None
         running = PeriodSearch(
             self.weeks,
@@ -136,23 +134,29 @@ class Period:
             self._end(signals)
 
     def _earlier(self) -> Optional[List[Cell]]:
-        """The plan to begin with, with days from the first week on: the one that was given, or that the folder has; None if it has none of
-        these weeks, or others come after them."""
+        """The plan to begin with, with days from the first week on: the one that was given, or that
+        the folder has; None if it has none of these weeks, or others come after them."""
         if not self._starts:
             return None if self.weeks.later() else self._plan_folder.others()
         return list(in_plan(roster.cells for roster in self._starts)) or None
 
     def plan_one_by_one(self, seconds: float, solver: Optional[str]) -> None:
-        """Plans each week before the next one, by the search over one week or a user's own solver. After a fault, or if the user stops
-        it, the weeks that have a roster have their files and reports."""
+        """Plans each week before the next one, by the search over one week or a user's own solver,
+        in an equal part of the time that is left. After a fault, or if the user stops it, the weeks
+        that have a roster have their files and reports."""
+        if len(self.numbers) > 1:
+            _say(_begin_text(self.numbers, "one after another", seconds))
+        clock = Clock(seconds)
         with interrupts() as signals, self._inputs.naming():
-            history, path = self.weeks.history, self.weeks.files.history
+            history = self.weeks.history
+            path = self.weeks.files.history
             for number in self.numbers:
                 week = WrittenWeek(
                     self.weeks.week_files(number, path), self.folder / roster_name(number)
                 )
                 _say(f"{week_name(number)}, {self._inputs.named(str(week.files.week))}")
-                outcome = self._plan_one(number, week, seconds, solver)
+                part = clock.left() / (self.numbers[-1] + 1 - number)
+                outcome = self._plan_one(number, week, part, solver)
                 if number + 1 < self.weeks.scenario.weeks:
                     history = next_history(
                         self.weeks.scenario,
@@ -166,7 +170,7 @@ class Period:
                 if outcome.fault:
                     raise outcome.fault
                 if number != self.numbers[-1]:
-                    self._stop_if(signals)
+                    signals.check()
             self._end(signals)
 
     def _plan_one(
@@ -184,7 +188,10 @@ class Period:
                 proof=self._proof,
                 progress=progress,
                 seed=self._seed,
+                originals=self._files.all(),
             )
+        except Stopped as fault:
+            raise Stopped(fault.status, f"{week_name(number)}: {fault.message}") from fault
         except (FileFault, Misuse, ProgramFault) as fault:
             raise Misuse(f"{week_name(number)}: {fault_line(fault)}") from fault
         self._report(number, week.roster, outcome.report)
@@ -200,7 +207,8 @@ class Period:
         return self._inputs.changes()
 
     def _end(self, signals: Interrupts) -> None:
-        """After the last week of the period, names the command for the first history of the next one."""
+        """After the last week of the period, names the command for the first history of the next
+        one."""
         last = self.numbers[-1]
         if last + 1 == self.weeks.scenario.weeks:
             history = (
@@ -218,11 +226,7 @@ class Period:
             _say(
                 f"to make the first history of the next period, type: inrc2pb-roster next {command}"
             )
-        self._stop_if(signals)
-
-    def _stop_if(self, signals: Interrupts) -> None:
-        if signals.caught:
-            raise KeyboardInterrupt
+        signals.check()
 
     def table(self) -> List[str]:
         """The penalty and the costs of each week, and their sums."""
@@ -251,7 +255,8 @@ def _read_start(path: Path, number: int, scenario: Scenario) -> Solution:
     if (start.week, start.scenario) != (number, scenario.name):
         what = f"{path} is of week {start.week} of {start.scenario}"
         raise Misuse(
-            f"{what}, not of week {number} of {scenario.name}: give one roster for each week, in order"
+            f"{what}, not of week {number} of {scenario.name}: give one roster for each week, in"
+            " order"
         )
     return start
 
@@ -271,6 +276,14 @@ def _table_line(name: str, cells: Iterable[str]) -> str:
     """A line of the table: the name of a week, its penalty and its costs."""
     penalty, *costs = cells
     return (f"{name:<8}{penalty:>8}" + "".join(f"{cost:>6}" for cost in costs)).rstrip()
+
+
+def _begin_text(numbers: Sequence[int], how: str, seconds: float) -> str:
+    """The first line of a search: its weeks, how several of them are planned, and its time."""
+    first = numbers[0] + 1
+    last = numbers[-1] + 1
+    weeks = f"week {first}" if first == last else f"weeks {first} to {last} {how}"
+    return f"{weeks}, at most {seconds:g} seconds in all"
 
 
 def _weeks(numbers: Sequence[int]) -> str:

@@ -4,42 +4,51 @@ import argparse
 import sys
 import tempfile
 from pathlib import Path
-from typing import List, Optional
+from typing import List, NamedTuple, Optional, Sequence
 
-from .arguments import Parser
-from .command import (
-    add_rosters_option,
-    add_weeks_options,
-    check_seconds,
-    number_of_seconds,
-    parser,
-    the_week,
-)
 from ..programs.clock import Clock
 from ..programs.inputs import Inputs
-from ..programs.interrupts import interrupts
+from ..programs.interrupts import Interrupts, interrupts
 from ..programs.locks import locked
 from ..programs.program import FAULT, WeekFiles
 from ..programs.progress import Progress
 from ..search.bounds import PROVER
-from ..search.claims import Answered, Kind, Verdict, judged, read_answer
+from ..search.claims import FALSE, Answered, Kind, Verdict, judged, read_answer
 from ..search.improving import held_rows, read_week_given
 from ..search.referee import SECONDS, Referee
-from ..week.writing import check_inputs_stay, check_no_pipe_is_written, check_no_pipes, check_target
+from ..week.writing import (
+    check_inputs_stay,
+    check_no_devices,
+    check_no_pipe_is_written,
+    check_no_pipes,
+    check_target,
+)
+from .arguments import Parser, parser
+from .week_options import (
+    add_rosters_option,
+    add_weeks_options,
+    check_seconds,
+    number_of_seconds,
+    the_week,
+)
 
 
 def options() -> Parser:
     """The parser of the verb."""
     referee = parser(
-        "Says of each answer of a solver whether what it claims is true:\n"
-        "  confirmed  it claims the best roster, and inrc2pb-bound proves that none costs less; or none, and none exists\n"
-        "  refuted    it claims the best roster, and one costs less; or none, and one exists\n"
-        "  lie        it breaks the model, or its roster does not cost what it says\n"
-        "  open       neither is known; the gap is the distance to the proved bound\n"
-        "  no claim   it has no roster",
-        "Without --proof it looks for a bound, and for a roster that refutes a claim.\n"
-        "Ends with status 1 if a claim is refuted, or a lie.\n"
-        "Example: inrc2pb-roster referee $WEEK --answer clasp.txt minisat.txt --out best.txt",
+        (
+            "Says of each answer of a solver whether what it claims is true:\n  confirmed  it"
+            " claims the best roster, and inrc2pb-bound proves that none costs less; or none, and"
+            " none exists\n  refuted    it claims the best roster, and one costs less; or none, and"
+            " one exists\n  lie        it breaks the model, or its roster does not cost what it"
+            " says\n  unreadable it is cut, or of another model\n  open       neither is known; the"
+            " gap is the distance to the proved bound\n  no claim   it has no roster"
+        ),
+        (
+            "Without --proof it looks for a bound, and for a roster that refutes a claim.\n"
+            "Ends with status 1 if a claim is refuted or a lie, or an answer unreadable.\n"
+            "Example: inrc2pb-roster referee $WEEK --answer clasp.txt minisat.txt --out best.txt"
+        ),
         "referee",
     )
     add_weeks_options(referee)
@@ -67,11 +76,17 @@ def options() -> Parser:
     return referee
 
 
-def _check_options(given: argparse.Namespace, files: WeekFiles) -> None:
+def _read(given: argparse.Namespace, files: WeekFiles) -> List[Path]:
+    """The files that are read."""
+    proof = [given.proof] if given.proof else []
+    return [*files.all(), *given.answer, *given.roster, *proof]
+
+
+def _check_options(given: argparse.Namespace, read: Sequence[Path]) -> None:
     """Raises the fault of an option."""
     check_seconds(given.time, "--time")
-    read = [*files.all(), *given.answer, *given.roster, given.proof]
     check_no_pipes(read)
+    check_no_devices(given.answer)
     if given.out:
         check_no_pipe_is_written(given.out)
         check_target(given.out.absolute())
@@ -80,21 +95,30 @@ def _check_options(given: argparse.Namespace, files: WeekFiles) -> None:
 
 def main(given: argparse.Namespace) -> int:
     """Judges the answers; the exit status."""
-    files, inputs = the_week(given), Inputs()
-    _check_options(given, files)
+    files = the_week(given)
+    inputs = Inputs()
+    read = _read(given, files)
+    _check_options(given, read)
     progress = Progress(sys.stderr, inputs.named)
-    with interrupts(), locked(
-        [given.out] if given.out else [], False, progress.warn
-    ), inputs.naming():
+    # A signal ends the command, also while it reads an answer, which may be long; but a search only
+    # ends earlier.
+    with locked([given.out] if given.out else [], False, progress.warn), inputs.naming():
         with tempfile.TemporaryDirectory(prefix="inrc2pb-referee-") as folder:
-            verdicts = _judge(
-                given, files.copied(inputs.copy), inputs.copy(given.proof), progress, Path(folder)
-            )
-    for answer, verdict in zip(given.answer, verdicts):
+            copies = files.copied(inputs.copy)
+            found = _judge(given, copies, inputs.copy(given.proof), progress, Path(folder), read)
+    for answer, verdict in zip(given.answer, found.verdicts):
         print(f"{answer}: {verdict}")
     for line in inputs.changes():
         print(line)
-    return FAULT if any(verdict.kind in (Kind.REFUTED, Kind.LIE) for verdict in verdicts) else 0
+    sys.stdout.flush()
+    found.signals.check()
+    return FAULT if any(verdict.kind in FALSE for verdict in found.verdicts) else 0
+
+
+class _Judged(NamedTuple):
+    verdicts: List[Verdict]
+    # Those that came during the search.
+    signals: Interrupts
 
 
 def _judge(
@@ -103,11 +127,14 @@ def _judge(
     proof: Optional[Path],
     progress: Progress,
     folder: Path,
-) -> List[Verdict]:
-    """Judges the answers, with files in this folder."""
+    read: Sequence[Path],
+) -> _Judged:
+    """Judges the answers, with files in this folder; none of those that are read is replaced."""
+    signals = Interrupts()
     week = read_week_given(files)
     held = held_rows(files.fix, week, progress.warn) if files.fix else ()
-    referee = Referee(files, week, held, (given.out or folder / "best.txt").absolute(), progress)
+    target = (given.out or folder / "best.txt").absolute()
+    referee = Referee(files, week, held, target, progress, read)
     if given.out:
         referee.best.resume()
     for roster in given.roster:
@@ -127,4 +154,4 @@ def _judge(
     bound = "no lower bound" if known.bound is None else f"lower bound {known.bound} ({PROVER})"
     best = "no roster" if known.penalty is None else f"best roster {known.penalty} ({known.roster})"
     print(f"no roster exists ({PROVER})" if known.none_exists else f"{bound}, {best}")
-    return [judged(answer, known) for answer in answers]
+    return _Judged([judged(answer, known) for answer in answers], signals)

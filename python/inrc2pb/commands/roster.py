@@ -20,13 +20,14 @@ from ..week.faults import Misuse
 from ..week.files import history_text, read_history, read_scenario, read_solution
 from ..week.records import DAYS, Place, Week
 from . import check, names, referee, show
-from .arguments import Parser, check_verb, table_of
-from .command import add_given_option, add_rosters_option, add_weeks_options, fix_files, parser
+from .arguments import Parser, check_verb, parser, table_of
+from .week_options import add_given_option, add_rosters_option, add_weeks_options, fix_files
 from .show import lines_text, warn, write_result
 
 
 class Verb(NamedTuple):
-    """What a verb does in one line, its parser, and what it does with the values of the command line; the exit status."""
+    """What a verb does in one line, its parser, and what it does with the values of the command
+    line; the exit status."""
 
     purpose: str
     options: Callable[[], Parser]
@@ -38,7 +39,10 @@ class Verb(NamedTuple):
 
 def _why_options() -> Parser:
     options = parser(
-        "Writes each charge of the rosters of some weeks: its cost, its rule, who and when; or each hard rule that is broken.",
+        (
+            "Writes each charge of the rosters of some weeks: its cost, its rule, who and when; or"
+            " each hard rule that is broken."
+        ),
         "Example: inrc2pb-roster why $WEEK --roster roster.txt",
         "why",
     )
@@ -64,7 +68,10 @@ def _why_options() -> Parser:
 
 def _swap_options() -> Parser:
     options = parser(
-        "Writes what it saves and costs, charge by charge, if two nurses swap these days in a roster.",
+        (
+            "Writes what it saves and costs, charge by charge, if two nurses swap these days in a"
+            " roster."
+        ),
         'Example: inrc2pb-roster swap "Chen Fri" "Grace Fri" $WEEK --roster roster.txt',
         "swap",
     )
@@ -137,8 +144,11 @@ def _explain(given: argparse.Namespace, view: RosterView, lines: Sequence[str]) 
 def _next_options() -> Parser:
     options = parser(
         "Writes the history with which the week after this roster begins.",
-        "docs/rules.md says what each number is. Files of different weeks or wards are a fault, with status 1.\n"
-        "Example: inrc2pb-roster next --sce ward.txt --his history-0.txt --roster roster-0.txt --out history-1.txt",
+        (
+            "docs/rules.md says what each number is. Files of different weeks or wards are a fault,"
+            " with status 1.\nExample: inrc2pb-roster next --sce ward.txt --his history-0.txt"
+            " --roster roster-0.txt --out history-1.txt"
+        ),
         "next",
     )
     options.add_argument("--sce", metavar="FILE", type=Path, required=True, help="the scenario")
@@ -170,13 +180,14 @@ def _next(given: argparse.Namespace) -> int:
     history = read_history(given.his, scenario)
     if history.scenario != scenario.name:
         raise Misuse(
-            f"{given.his} is of {history.scenario}, the scenario is {scenario.name}: give the files of one ward"
+            f"{given.his} is of {history.scenario}, the scenario is {scenario.name}: give the files"
+            " of one ward"
         )
     roster = read_solution(given.roster, scenario)
     if (roster.week, roster.scenario) != (history.week, history.scenario):
         raise Misuse(
-            f"{given.roster} is of week {roster.week} of {roster.scenario}, "
-            f"not of week {history.week} of {history.scenario}: give the roster and the history of one week"
+            f"{given.roster} is of week {roster.week} of {roster.scenario}, not of week"
+            f" {history.week} of {history.scenario}: give the roster and the history of one week"
         )
     try:
         text = history_text(next_history(scenario, history, roster.cells, given.new_period))
@@ -191,10 +202,15 @@ def _next(given: argparse.Namespace) -> int:
 
 def _fits_options() -> Parser:
     options = parser(
-        "Lists for each place of a week that needs nurses who could fill it: who has the skill, is not away, and, on Monday, may work the\n"
-        "shift type after her last one. A line has the day, the shift type, the skill, the minimum and the best number, and the nurses.",
-        "It helps if no roster exists: look for a place that few nurses could fill.\n"
-        "Example: inrc2pb-roster fits $WEEK | grep 'HeadNurse (1'",
+        (
+            "Lists for each place of a week that needs nurses who could fill it: who has the skill,"
+            " is not away, and, on Monday, may work the\nshift type after her last one. A line has"
+            " the day, the shift type, the skill, the minimum and the best number, and the nurses."
+        ),
+        (
+            "It helps if no roster exists: look for a place that few nurses could fill.\n"
+            "Example: inrc2pb-roster fits $WEEK | grep 'HeadNurse (1'"
+        ),
         "fits",
     )
     options.add_argument("--sce", metavar="FILE", type=Path, required=True, help="the scenario")
@@ -229,15 +245,23 @@ def _fits(given: argparse.Namespace) -> int:
 
 def _results_options() -> Parser:
     options = parser(
-        "Prints a table of the reports of many runs of inrc2pb-solve: what each has printed on standard output, in a file of its own.",
-        "docs/solvers.md shows how to run many weeks, on one machine or on several.\n"
-        "Example: inrc2pb-roster results reports/*.txt --joblog jobs.log",
+        (
+            "Prints a table of the reports of many runs of inrc2pb-solve: what each has printed on"
+            " standard output, in a file of its own."
+        ),
+        (
+            "docs/solvers.md shows how to run many weeks, on one machine or on several.\n"
+            "Example: inrc2pb-roster results reports/*.txt --joblog jobs.log"
+        ),
         "results",
     )
     options.add_argument(
         "reports", metavar="FILE", type=Path, nargs="+", help="the reports, right after the verb"
     )
-    seconds = "a file that `parallel --joblog` has written: the seconds of job N are those of the report whose name ends with N"
+    seconds = (
+        "a file that `parallel --joblog` has written: the seconds of job N are those of the report"
+        " whose name ends with N"
+    )
     options.add_argument("--joblog", metavar="FILE", type=Path, help=seconds)
     return options
 
@@ -271,8 +295,10 @@ def _help() -> Parser:
     purposes = table_of({name: verb.purpose for name, verb in VERBS.items()})
     options = parser(
         f"Shows, explains and checks rosters, and goes on from them.\n\n{purposes}",
-        "A roster is a solution file, as `inrc2pb decode` writes it. Each verb has --help.\n"
-        "Example: inrc2pb-roster show $WEEK --roster roster.txt",
+        (
+            "A roster is a solution file, as `inrc2pb decode` writes it. Each verb has --help.\n"
+            "Example: inrc2pb-roster show $WEEK --roster roster.txt"
+        ),
     )
     options.add_argument("verb", metavar="VERB", help="what to do")
     return options
@@ -291,8 +317,10 @@ def main(words: Optional[List[str]] = None) -> int:
 
 
 def fits_lines(week: Week) -> Iterator[str]:
-    """A line for each place that asks for nurses, such as `Mon Early Nurse (1,2): Ann Cem`, by day, shift type and skill."""
-    scenario, away = week.scenario, absences_of(week.data)
+    """A line for each place that asks for nurses, such as `Mon Early Nurse (1,2): Ann Cem`, by day,
+    shift type and skill."""
+    scenario = week.scenario
+    away = absences_of(week.data)
     for place in itertools.starmap(
         Place, itertools.product(range(len(DAYS)), scenario.shift_types, scenario.skills)
     ):

@@ -1,4 +1,5 @@
-"""The verb `show` of `inrc2pb-roster`: rosters as a table of nurses by days, as a page, as a spreadsheet, or as calendars."""
+"""The verb `show` of `inrc2pb-roster`: rosters as a table of nurses by days, as a page, as a
+spreadsheet, or as calendars."""
 
 import argparse
 import csv
@@ -18,17 +19,21 @@ from ..shown.roster_view import AWAY, HELD, REFUSED, RosterView
 from ..week.dates import read_monday, read_times
 from ..week.faults import Misuse, not_obeyed
 from ..week.writing import check_inputs_stay, write_text
-from .arguments import Parser
-from .command import add_given_option, add_rosters_option, fix_files, parser, print_painted
+from .arguments import Parser, parser
+from .command import print_painted
+from .week_options import add_given_option, add_rosters_option, fix_files
 
 
 def options() -> Parser:
     """The parser of the verb."""
     shown = parser(
         "Shows rosters as a table of nurses by days.",
-        "With --sce, --his and --week the table has what each nurse costs, by rule, and the places with too few or too many nurses.\n"
-        "The first week's --his is enough. In a terminal each shift type has a color, unless NO_COLOR is set.\n"
-        "Example: inrc2pb-roster show $WEEK --roster roster.txt",
+        (
+            "With --sce, --his and --week the table has what each nurse costs, by rule, and the"
+            " places with too few or too many nurses.\nThe first week's --his is enough. In a"
+            " terminal each shift type has a color, unless NO_COLOR is set.\nExample:"
+            " inrc2pb-roster show $WEEK --roster roster.txt"
+        ),
         "show",
     )
     add_rosters_option(shown, "a roster of each week, in order, as a solution file", required=True)
@@ -40,13 +45,16 @@ def options() -> Parser:
         "--his", metavar="FILE", type=Path, nargs="+", action="extend", default=[], help=histories
     )
     weeks = (
-        f"the requirements and requests of each week, in order: a cell that should be free has a {REFUSED}, "
-        f"of a nurse who is away a {AWAY}"
+        "the requirements and requests of each week, in order: a cell that should be free has a"
+        f" {REFUSED}, of a nurse who is away a {AWAY}"
     )
     shown.add_argument(
         "--week", metavar="FILE", type=Path, nargs="+", action="extend", default=[], help=weeks
     )
-    held = f"assignments that are held: their cells have a {HELD}; of week N of several as N=FILE, where N is 1 for the first roster"
+    held = (
+        f"assignments that are held: their cells have a {HELD}; of week N of several as N=FILE,"
+        " where N is 1 for the first roster"
+    )
     shown.add_argument("--fix", metavar="[N=]FILE", action="append", default=[], help=held)
     add_given_option(shown)
     shown.add_argument(
@@ -67,7 +75,10 @@ def options() -> Parser:
         metavar="DATE",
         help="the date of the first Monday, such as 2026-11-30; for --html and --ics",
     )
-    times = "when shifts of a type begin and end, such as Early=06:00-14:15; for --html and --ics; may be repeated"
+    times = (
+        "when shifts of a type begin and end, such as Early=06:00-14:15; for --html and --ics; may"
+        " be repeated"
+    )
     shown.add_argument("--times", metavar="SHIFT=TIMES", action="append", default=[], help=times)
     shown.add_argument(
         "--ics",
@@ -146,7 +157,8 @@ def warn(view: RosterView) -> None:
 def write_result(
     text: str, target: Optional[Path], inputs: Sequence[Optional[Path]], what: str
 ) -> None:
-    """Writes the text to the file, or to standard output. Raises Misuse if the file is one of these, which are read."""
+    """Writes the text to the file, or to standard output. Raises Misuse if the file is one of
+    these, which are read."""
     if target is None:
         print(text, end="")
         return

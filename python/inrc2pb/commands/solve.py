@@ -1,4 +1,5 @@
-"""The command `inrc2pb-solve`: finds the best roster of a week, or plans the weeks of a period together."""
+"""The command `inrc2pb-solve`: finds the best roster of a week, or plans the weeks of a period
+together."""
 
 import argparse
 import contextlib
@@ -17,8 +18,8 @@ from ..solvers.solvers import find_solver
 from ..week.faults import Misuse
 from ..week.writing import check_inputs_stay, replacing
 from . import competition
-from .arguments import Parser
-from .command import (
+from .arguments import Parser, parser
+from .week_options import (
     add_given_option,
     add_rosters_option,
     add_solver_option,
@@ -26,23 +27,29 @@ from .command import (
     check_seconds,
     fix_files,
     number_of_seconds,
-    parser,
     the_week,
 )
 from .period import Period
 
-# The seconds for each week of several.
+# The seconds of a search for several weeks, for each of them.
 WEEK_SECONDS = 60.0
 
 
 def _options() -> Parser:
     options = parser(
-        "Finds the best roster for a week, or improves one; plans several weeks together. The search is over whole weeks of nurses, by\n"
-        "the linear programs of Clp, which comes with cbc. `inrc2pb decode` checks each roster, and `inrc2pb-bound` proves the lower\n"
-        "bound. Ctrl-C ends the search and keeps the best. Improvements are printed on standard error, the report on standard output.",
-        "For one week --out is the roster's file. For several weeks, or if it is a folder that is there, it is the folder for\n"
-        "roster-N.txt of each week and history-N.txt of each next one, numbered as in the histories, from 0.\n"
-        "Example: inrc2pb-solve $WEEK --out roster.txt",
+        (
+            "Finds the best roster for a week, or improves one; plans several weeks together. The"
+            " search is over whole weeks of nurses, by\nthe linear programs of Clp, which comes"
+            " with cbc. `inrc2pb decode` checks each roster, and `inrc2pb-bound` proves the"
+            " lower\nbound. Ctrl-C ends the search and keeps the best. Improvements are printed on"
+            " standard error, the report on standard output."
+        ),
+        (
+            "For one week --out is the roster's file. For several weeks, or if it is a folder that"
+            " is there, it is the folder for\nroster-N.txt of each week and history-N.txt of each"
+            " next one, numbered as in the histories, from 0.\nExample: inrc2pb-solve $WEEK --out"
+            " roster.txt"
+        ),
     )
     add_weeks_options(options)
     add_given_option(options)
@@ -51,23 +58,34 @@ def _options() -> Parser:
         metavar="PATH",
         type=Path,
         required=True,
-        help="the roster to write, or the folder for rosters and histories; the search begins with rosters of these weeks that are "
-        "there, so it never gets worse ones",
+        help=(
+            "the roster to write, or the folder for rosters and histories; the search begins with"
+            " rosters of these weeks that are there, so it never gets worse ones"
+        ),
     )
     add_rosters_option(
         options,
-        "a roster of each week, in order, to begin with (default: those of --out, if they are of these weeks)",
+        (
+            "a roster of each week, in order, to begin with (default: those of --out, if they are"
+            " of these weeks)"
+        ),
     )
     options.add_argument(
         "--ahead",
         action="store_true",
-        help="plan for the later weeks too: they are not known, and count with the numbers of these weeks",
+        help=(
+            "plan for the later weeks too: they are not known, and count with the numbers of these"
+            " weeks"
+        ),
     )
     options.add_argument(
         "--time",
         metavar="SECONDS",
         type=number_of_seconds,
-        help=f"the most seconds to search for each week (default: {SECONDS:.0f} for one week, {WEEK_SECONDS:.0f} for each of several)",
+        help=(
+            f"the most seconds to search in all (default: {SECONDS:.0f} for one week, and"
+            f" {WEEK_SECONDS:.0f} times their number for several)"
+        ),
     )
     options.add_argument(
         "--proof",
@@ -80,7 +98,10 @@ def _options() -> Parser:
         metavar="N",
         type=int,
         default=1,
-        help="the beginning of the search's random choices: with one processor the same search (default: 1)",
+        help=(
+            "the beginning of the search's random choices: with one processor the same search"
+            " (default: 1)"
+        ),
     )
     options.add_argument(
         "--wait",
@@ -103,7 +124,8 @@ def _one_week(given: argparse.Namespace) -> int:
     """Finds the best roster of the week; the exit status."""
     if len(given.roster) > 1:
         raise Misuse(f"--roster has {len(given.roster)} files for one week: give one")
-    start, seconds = next(iter(given.roster), None), SECONDS if given.time is None else given.time
+    start = next(iter(given.roster), None)
+    seconds = SECONDS if given.time is None else given.time
     with interrupts():
         progress = Progress(sys.stderr)
         outcome = search(
@@ -125,7 +147,8 @@ def _one_week(given: argparse.Namespace) -> int:
 
 
 def _several_weeks(given: argparse.Namespace) -> int:
-    """Plans the weeks together, or each after the other by the user's own solver; the exit status."""
+    """Plans the weeks together, or each after the other by the user's own solver; the exit
+    status."""
     if given.solver:
         find_solver(given.solver)
         if given.ahead:
@@ -134,9 +157,10 @@ def _several_weeks(given: argparse.Namespace) -> int:
             )
     if given.proof and (given.solver or given.ahead):
         raise Misuse(
-            f"with {'--solver' if given.solver else '--ahead'} there is no certificate: leave out --proof"
+            f"with {'--solver' if given.solver else '--ahead'} there is no certificate: leave out"
+            " --proof"
         )
-    seconds = WEEK_SECONDS if given.time is None else given.time
+    seconds = WEEK_SECONDS * len(given.week) if given.time is None else given.time
     fixes = fix_files(given.fix, len(given.week))
     files = PeriodFiles(
         given.sce,
@@ -148,13 +172,13 @@ def _several_weeks(given: argparse.Namespace) -> int:
         given=given.facts,
     )
     period = Period(files, given.out, given.proof, given.seed, given.roster)
-    with interrupts() as signals, period.locked(given.wait):
+    with interrupts() as signals, signals.ending(), period.locked(given.wait):
         period.name_replaced()
         try:
             if given.solver or (len(period.numbers) == 1 and not period.weeks.later()):
                 period.plan_one_by_one(seconds, given.solver)
             else:
-                period.plan_together(seconds * len(period.numbers))
+                period.plan_together(seconds)
         finally:
             if period.reports:
                 lines = ["", *period.table(), *period.bound_lines, *period.changes()]
@@ -200,7 +224,10 @@ EXAMPLE = (
     "  inrc2pb-solve --answer week.sol | inrc2pb decode $WEEK --sol roster.txt"
 )
 MODEL = "convert the OPB model that `inrc2pb encode` wrote (default: standard input) to an LP file"
-ANSWER = "convert a solver's result file, of cbc, glpsol, HiGHS, Gurobi, SYMPHONY or toulbar2, to an answer for `inrc2pb decode`"
+ANSWER = (
+    "convert a solver's result file, of cbc, glpsol, HiGHS, Gurobi, SYMPHONY or toulbar2, to an"
+    " answer for `inrc2pb decode`"
+)
 
 
 def model_options() -> Parser:
@@ -234,7 +261,10 @@ def answer_options() -> Parser:
         "Converts the result file of a MIP solver to an answer, for `inrc2pb decode`.", EXAMPLE
     )
     options.add_argument("--answer", metavar="FILE", type=Path, required=True, help=ANSWER)
-    says = "how the solver ended, if its file does not say (Gurobi; default: stopped); with infeasible the file may be missing"
+    says = (
+        "how the solver ended, if its file does not say (Gurobi; default: stopped); with infeasible"
+        " the file may be missing"
+    )
     options.add_argument("--status", choices=sorted(STATUSES), help=says)
     return options
 

@@ -1,7 +1,8 @@
 """Absences: nurses who are away on a day, or never work a shift type on it.
 
-They are facts that plans keep. For solvers that know only a week's file they are also written as many equal requests: one that is there
-`MARK` times or more is an absence too, and each command keeps it.
+They are facts that plans keep. For solvers that know only a week's file they are also written as
+many equal requests: one that is there `MARK` times or more is an absence too, and each command
+keeps it.
 """
 
 import collections
@@ -12,9 +13,11 @@ from ..week.records import DAYS, Absence, Cell, Request, Scenario, WeekData
 from ..week.slots import MAX_NUMBER
 from ..week.words import joined, plural, readable
 
-# Nobody wishes a day off thirty times. A broken absence with the most requests costs more than most rosters. The rows of a file that
-# absences leave are for wishes.
-MARK, MOST_REQUESTS, ROWS = 30, 200, 9000
+# Nobody wishes a day off thirty times. A broken absence with the most requests costs more than most
+# rosters. The rows of a file that absences leave are for wishes.
+MARK = 30
+MOST_REQUESTS = 200
+ROWS = 9000
 
 
 def absences_of(data: WeekData) -> FrozenSet[Absence]:
@@ -47,7 +50,8 @@ def working_while_away(absences: Collection[Absence], cells: Iterable[Cell]) -> 
 
 
 def in_words(cells: Iterable[Cell], names: Sequence[str] = DAYS) -> str:
-    """Who works when, as `Chen works Late on Fri and Sat, Grace works Night on Sun`. The days of the week have these names."""
+    """Who works when, as `Chen works Late on Fri and Sat, Grace works Night on Sun`. The days of
+    the week have these names."""
     days: Dict[Tuple[str, str], List[int]] = {}
     for cell in cells:
         days.setdefault((cell.nurse, cell.shift), []).append(cell.day)
@@ -58,7 +62,8 @@ def in_words(cells: Iterable[Cell], names: Sequence[str] = DAYS) -> str:
 
 
 def way_out(scenario: Scenario, held: Iterable[Cell], broken: Collection[Cell]) -> str:
-    """What to do if these rows break absences: the held shifts of nurses who could work them instead, or how to find the cause."""
+    """What to do if these rows break absences: the held shifts of nurses who could work them
+    instead, or how to find the cause."""
     wanted = {(row.day, row.shift, row.skill) for row in broken}
     others = [row for row in held if (row.day, row.shift, row.skill) not in wanted]
     able = [
@@ -70,7 +75,10 @@ def way_out(scenario: Scenario, held: Iterable[Cell], broken: Collection[Cell]) 
         )
     ]
     if not able:
-        return "type inrc2pb-roster check with the same files and --why-none: it says which minimum numbers to lower"
+        return (
+            "type inrc2pb-roster check with the same files and --why-none: it says which minimum"
+            " numbers to lower"
+        )
     some = ", ".join(
         f"{readable(row.nurse)} {DAYS[row.day]} {readable(row.shift)}" for row in able[:6]
     )
@@ -97,8 +105,8 @@ NO_SKILL = "give someone who is away for the whole week no skill, in a copy of t
 
 
 def with_requests(scenario: Scenario, data: WeekData, added: Iterable[Absence]) -> Written:
-    """The week with these absences as requests too: all of them have the same number of requests. Raises TooMany if a week's file
-    cannot have so many."""
+    """The week with these absences as requests too: all of them have the same number of requests.
+    Raises TooMany if a week's file cannot have so many."""
     away = sorted(
         {*absences_of(data), *added},
         key=lambda absence: (
@@ -111,8 +119,9 @@ def with_requests(scenario: Scenario, data: WeekData, added: Iterable[Absence]) 
     times = min(MOST_REQUESTS, min(ROWS, MAX_NUMBER - len(wishes)) // max(1, len(away)))
     if times < MARK:
         raise TooMany(
-            f"{plural(len(away), 'absence')} with {MARK} requests each and {plural(len(wishes), 'other request')} need more than the "
-            f"{MAX_NUMBER} requests of a week's file"
+            f"{plural(len(away), 'absence')} with {MARK} requests each and"
+            f" {plural(len(wishes), 'other request')} need more than the {MAX_NUMBER} requests of a"
+            " week's file"
         )
     rows = [
         Request(absence.nurse, absence.shift, absence.day) for absence in away for _ in range(times)

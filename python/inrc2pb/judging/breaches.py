@@ -1,4 +1,5 @@
-"""Why a roster breaks hard rules, and why a roster or a fix file does not fit its week: in words, with the line of its file."""
+"""Why a roster breaks hard rules, and why a roster or a fix file does not fit its week: in words,
+with the line of its file."""
 
 import re
 from pathlib import Path
@@ -12,9 +13,12 @@ from ..week.words import plural
 from .rules import numbers
 
 Shifts = Dict[Tuple[str, int], List[str]]
-# The indices of the week's number, of the scenario's name and of the first row among the tokens of a solution file, and the number of
-# tokens of a row.
-_NUMBER, _NAME, _ROWS, _ROW = 1, 2, 6, 4
+# The indices of the week's number, of the scenario's name and of the first row among the tokens of
+# a solution file, and the number of tokens of a row.
+_NUMBER = 1
+_NAME = 2
+_ROWS = 6
+_ROW = 4
 # The breach of each rule in words that need no names of rules.
 _PLAIN = {
     "H1": "two places on a day",
@@ -38,8 +42,10 @@ class Breach(NamedTuple):
 
 
 def breaches_by(cell: Cell, shifts: Shifts, scenario: Scenario) -> Iterator[Breach]:
-    """How a row breaks H1, H3 or H4, alone or with these shifts of nurses on days; the Sunday before is day -1."""
-    nurse, day = cell.nurse, cell.day
+    """How a row breaks H1, H3 or H4, alone or with these shifts of nurses on days; the Sunday
+    before is day -1."""
+    nurse = cell.nurse
+    day = cell.day
     if shifts.get((nurse, day)):
         yield Breach("H1", f"{nurse} has two places on {DAYS[day]}")
     for earlier in shifts.get((nurse, day - 1), ()):
@@ -53,7 +59,10 @@ def breaches_by(cell: Cell, shifts: Shifts, scenario: Scenario) -> Iterator[Brea
         if scenario.forbids(cell.shift, later):
             yield Breach(
                 "H3",
-                f"{nurse} may not work {later} on {DAYS[day + 1]} after {cell.shift} on {DAYS[day]}",
+                (
+                    f"{nurse} may not work {later} on {DAYS[day + 1]} after {cell.shift} on"
+                    f" {DAYS[day]}"
+                ),
             )
     if cell.skill not in scenario.nurses[nurse].skills:
         yield Breach("H4", f"{nurse} does not have the skill {cell.skill}")
@@ -67,7 +76,10 @@ def minimum_breaches(week: Week, cells: Iterable[Cell]) -> Iterator[Breach]:
             named = f"{DAYS[place.day]} {place.shift} {place.skill}"
             yield Breach(
                 "H2",
-                f"{named} has {plural(number[place], 'nurse')} and needs at least {required.minimum}",
+                (
+                    f"{named} has {plural(number[place], 'nurse')} and needs at least"
+                    f" {required.minimum}"
+                ),
             )
 
 
@@ -96,7 +108,8 @@ def breaches(week: Week, cells: Sequence[Cell], held: Iterable[Cell] = ()) -> Li
 
 
 class Misfit(NamedTuple):
-    """A hard rule that a roster breaks, the line of the row that breaks it (0: no row does), and the reason."""
+    """A hard rule that a roster breaks, the line of the row that breaks it (0: no row does), and
+    the reason."""
 
     rule: str
     line: int
@@ -111,7 +124,8 @@ def _lines(text: str) -> List[int]:
 def other_week(
     path: Path, scenario: Scenario, history: Optional[History], text: Optional[str] = None
 ) -> str:
-    """The line in which the file names another ward or week than these, and the probable mistake; else nothing."""
+    """The line in which the file names another ward or week than these, and the probable mistake;
+    else nothing."""
     try:
         text = text_of(path) if text is None else text
         solution = read_solution(path, None, text)
@@ -119,9 +133,15 @@ def other_week(
         return ""
     lines = _lines(text)
     if solution.scenario != scenario.name:
-        return f"line {lines[_NAME]} has '{solution.scenario}', and the scenario is '{scenario.name}': is the file of another ward?"
+        return (
+            f"line {lines[_NAME]} has '{solution.scenario}', and the scenario is '{scenario.name}':"
+            " is the file of another ward?"
+        )
     if history and solution.week != history.week:
-        return f"line {lines[_NUMBER]} has week {solution.week}, and the history has week {history.week}: is the file of another week?"
+        return (
+            f"line {lines[_NUMBER]} has week {solution.week}, and the history has week"
+            f" {history.week}: is the file of another week?"
+        )
     return ""
 
 
@@ -132,7 +152,8 @@ def _hint(path: Path, scenario: Scenario, history: Optional[History]) -> str:
 
 
 def read_roster(path: Path, scenario: Scenario, history: Optional[History]) -> Solution:
-    """Reads a roster or a fix file. Raises FileFault if it has a mistake; if it is of another ward or week, the fault says that too."""
+    """Reads a roster or a fix file. Raises FileFault if it has a mistake; if it is of another ward
+    or week, the fault says that too."""
     try:
         return read_solution(path, scenario)
     except FileFault as fault:
@@ -158,8 +179,8 @@ def misfits(
 def read_held(
     path: Path, scenario: Scenario, history: Optional[History], warn: Callable[[str], None]
 ) -> Solution:
-    """Reads a fix file. `warn` gets the hint if the file is of another ward or week. Raises FileFault if no roster can have one of its
-    rows."""
+    """Reads a fix file. `warn` gets the hint if the file is of another ward or week. Raises
+    FileFault if no roster can have one of its rows."""
     solution = read_roster(path, scenario, history)
     misfit = next(misfits(path, solution, scenario, history), None)
     if misfit:
@@ -175,7 +196,8 @@ def read_held(
 
 
 def explained(fault: ProgramFault, path: Path, week: Week, held: Iterable[Cell]) -> ProgramFault:
-    """The fault that `inrc2pb extend` found in the roster of this file; if it breaks a hard rule, with the line and the reason."""
+    """The fault that `inrc2pb extend` found in the roster of this file; if it breaks a hard rule,
+    with the line and the reason."""
     rule = re.search(r"roster breaks (H[1-5])", fault.message)
     if not rule:
         return fault

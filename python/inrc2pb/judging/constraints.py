@@ -1,4 +1,5 @@
-"""The constraints of a week's model in their order, as docs/model.md has it, and the names of its variables and constraints in words."""
+"""The constraints of a week's model in their order, as docs/model.md has it, and the names of its
+variables and constraints in words."""
 
 import re
 from array import array
@@ -8,7 +9,8 @@ from typing import Iterable, Iterator, List, NamedTuple, Sequence, Tuple
 from ..week.records import DAYS, Cell, Limits, Place, Week
 
 # A variable of a row, and a term of the objective.
-_VARIABLE, _TERM = re.compile(r"x([0-9]+)"), re.compile(r"([+-][0-9]+) x([0-9]+)")
+_VARIABLE = re.compile(r"x([0-9]+)")
+_TERM = re.compile(r"([+-][0-9]+) x([0-9]+)")
 
 
 class Block(NamedTuple):
@@ -68,7 +70,8 @@ def _hard_blocks(week: Week, held: Sequence[Cell]) -> Iterator[Block]:
 
 def _cell_key(week: Week, cell: Cell) -> Tuple[int, int, int, int]:
     scenario = week.scenario
-    shifts, nurses = list(scenario.shift_types), list(scenario.nurses)
+    shifts = list(scenario.shift_types)
+    nurses = list(scenario.nurses)
     return (
         nurses.index(cell.nurse),
         cell.day,
@@ -78,7 +81,8 @@ def _cell_key(week: Week, cell: Cell) -> Tuple[int, int, int, int]:
 
 
 def _successions(week: Week, nurse: str) -> Iterator[Block]:
-    types, last = week.scenario.shift_types, week.history.nurses[nurse].last_shift
+    types = week.scenario.shift_types
+    last = week.history.nurses[nurse].last_shift
     after = {
         name: [later for later in types if week.scenario.forbids(name, later)] for name in types
     }
@@ -101,7 +105,8 @@ def _run(rule: str, origin: str, history: int, limits: Limits) -> Iterator[Block
 
 
 def _soft_blocks(week: Week, early: bool) -> Iterator[Block]:
-    scenario, histories = week.scenario, week.history.nurses
+    scenario = week.scenario
+    histories = week.history.nurses
     for place in _places(week):
         required = week.data.requirements.get(place)
         if required and required.optimal > required.minimum:
@@ -142,10 +147,8 @@ def _soft_blocks(week: Week, early: bool) -> Iterator[Block]:
 
 
 def _totals(week: Week, nurse: str, early: bool) -> Iterator[Block]:
-    limits, before = (
-        week.scenario.contract_of(nurse).assignments,
-        week.history.nurses[nurse].assignments,
-    )
+    limits = week.scenario.contract_of(nurse).assignments
+    before = week.history.nurses[nurse].assignments
     if week.is_last:
         yield Block("S6", f"too few assignments of {nurse}", int(limits.minimum > before))
     if week.is_last or early:
@@ -161,11 +164,14 @@ def blocks(week: Week, held: Sequence[Cell] = (), early: bool = False) -> Iterat
 def names_of(
     lines: Iterable[str], week: Week, held: Sequence[Cell] = (), early: bool = False
 ) -> Iterator[str]:
-    """Each variable and each constraint in words, for the lines of the model that `inrc2pb encode` writes for this week.
+    """Each variable and each constraint in words, for the lines of the model that `inrc2pb encode`
+    writes for this week.
 
-    The cells and the unit variable come first. The slacks of a constraint follow it with their weights: `x385 slack c299 S2 15 runs of`.
+    The cells and the unit variable come first. The slacks of a constraint follow it with their
+    weights: `x385 slack c299 S2 15 runs of`.
     """
-    rows, scenario = iter(lines), week.scenario
+    rows = iter(lines)
+    scenario = week.scenario
     cells = [
         " ".join(names)
         for names in product(scenario.nurses, DAYS, scenario.shift_types, scenario.skills)
@@ -174,7 +180,8 @@ def names_of(
     yield from (f"x{number} cell {cell}" for number, cell in enumerate(cells, 1))
     yield f"x{unit} unit"
     variables = int(next(rows).split()[2])
-    weights, row = array("q", bytes(8 * (variables + 1 - unit))), next(rows)
+    weights = array("q", bytes(8 * (variables + 1 - unit)))
+    row = next(rows)
     if row.startswith("min:"):
         for weight, variable in _TERM.findall(row):
             weights[max(0, int(variable) - unit)] = int(weight)

@@ -1,4 +1,5 @@
-"""Days away that concern the days beside them: training is work in a row, and before training or leave nobody should have a night shift."""
+"""Days away that concern the days beside them: training is work in a row, and before training or
+leave nobody should have a night shift."""
 
 from typing import Collection, FrozenSet, Iterator, List, Mapping, NamedTuple
 
@@ -6,8 +7,9 @@ from ..week.records import History, NurseDay, Scenario
 
 
 class DaysAway(NamedTuple):
-    """The days of `training` count as work in a row, and on the day before each of `free` nobody should have a shift type of `nights`,
-    which end on the next day. Days count from the first Monday of the plan; those before `fixed` do not change.
+    """The days of `training` count as work in a row, and on the day before each of `free` nobody
+    should have a shift type of `nights`, which end on the next day. Days count from the first
+    Monday of the plan; those before `fixed` do not change.
     """
 
     training: FrozenSet[NurseDay] = frozenset()
@@ -25,7 +27,8 @@ class DaysAway(NamedTuple):
 
 
 class LongRow(NamedTuple):
-    """Days in a row with work and training, more than the contract of the nurse has with work. `number` is with the days before Monday."""
+    """Days in a row with work and training, more than the contract of the nurse has with work.
+    `number` is with the days before Monday."""
 
     nurse: str
     days: List[int]
@@ -38,10 +41,8 @@ def long_rows(
 ) -> Iterator[LongRow]:
     """The rows of days with training that are too long, if nurses work on these days."""
     for nurse in dict.fromkeys(nurse for nurse, _ in sorted(away.training)):
-        most, past = (
-            scenario.contract_of(nurse).working_days.maximum,
-            history.nurses[nurse].working_days,
-        )
+        most = scenario.contract_of(nurse).working_days.maximum
+        past = history.nurses[nurse].working_days
         for days in _in_a_row({day for who, day in (*works, *away.training) if who == nurse}):
             number = len(days) + (past if days[0] == 0 else 0)
             if number > most and any((nurse, day) in away.training for day in days):
@@ -61,7 +62,8 @@ def _in_a_row(days: Collection[int]) -> Iterator[List[int]]:
 
 
 def nights_before(away: DaysAway, works: Mapping[NurseDay, str]) -> List[NurseDay]:
-    """The days of `free` to which nurses come from a night shift, if they have these shift types."""
+    """The days of `free` to which nurses come from a night shift, if they have these shift
+    types."""
     return [
         NurseDay(nurse, day)
         for nurse, day in sorted(away.free)
@@ -72,7 +74,8 @@ def nights_before(away: DaysAway, works: Mapping[NurseDay, str]) -> List[NurseDa
 def excess(
     scenario: Scenario, history: History, away: DaysAway, works: Mapping[NurseDay, str]
 ) -> int:
-    """How many days of too long rows, and nights before training or leave, could be otherwise, if nurses have these shift types."""
+    """How many days of too long rows, and nights before training or leave, could be otherwise, if
+    nurses have these shift types."""
     rows = long_rows(scenario, history, away, works)
     above = sum(
         row.number - row.most

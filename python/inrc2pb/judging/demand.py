@@ -1,4 +1,5 @@
-"""What can be counted before planning: nurses who are needed at once, and shifts that a week asks for and contracts supply."""
+"""What can be counted before planning: nurses who are needed at once, and shifts that a week asks
+for and contracts supply."""
 
 import math
 from fractions import Fraction
@@ -9,9 +10,11 @@ from ..week.records import DAYS, Absence, Cell, History, Place, Scenario, WeekDa
 from ..week.soft_rules import ASSIGNMENT_TOTAL, MISSING_NURSE
 from ..week.words import joined
 from .absences import absences_of
+from .obstacles import Obstacle, obstacles
 from .odd_values import IMPOSSIBLE, Reach, Warned
 
-# For each week, from the week of a history on, the shifts as which each nurse's days away count. The history has them.
+# For each week, from the week of a history on, the shifts as which each nurse's days away count.
+# The history has them.
 Paid = Sequence[Mapping[str, Fraction]]
 
 
@@ -25,24 +28,31 @@ class _Short(NamedTuple):
 def demand_warnings(
     scenario: Scenario, history: Optional[History], data: WeekData, paid: Paid = ()
 ) -> Iterator[Warned]:
-    """Warnings of days for which no choice of nurses fills all minimum numbers, and of more shifts than the contracts supply."""
+    """Warnings of days for which no choice of nurses fills all minimum numbers, and of more shifts
+    than the contracts supply."""
     days_of: Dict[Warned, List[str]] = {}
     for day, name in enumerate(DAYS):
-        always, there = _shortage(scenario, history, data, day, ()), _shortage(
-            scenario, history, data, day, absences_of(data)
-        )
+        always = _shortage(scenario, history, data, day, ())
+        there = _shortage(scenario, history, data, day, absences_of(data))
         if always:
             days_of.setdefault(
                 Warned(f"{always.text}: {IMPOSSIBLE}: {always.cure}", Reach.NONE), []
             ).append(name)
         elif there:
-            unkept = f"{there.text}: no roster that keeps every absence can meet it: {there.cure}, or shorten an absence"
+            unkept = (
+                f"{there.text}: no roster that keeps every absence can meet it: {there.cure}, or"
+                " shorten an absence"
+            )
             days_of.setdefault(Warned(unkept, Reach.NOT_ALL), []).append(name)
     for warned, days in days_of.items():
         yield Warned(f"{joined(days)}: {warned}", warned.reach)
-    asked, supplied = asked_shifts(data), supplied_shifts(scenario, history, paid)
+    asked = asked_shifts(data)
+    supplied = supplied_shifts(scenario, history, paid)
     if asked[0] > supplied[1]:
-        supply = f"it asks for at least {asked[0]} shifts, and the contracts supply at most {supplied[1]} a week"
+        supply = (
+            f"it asks for at least {asked[0]} shifts, and the contracts supply at most"
+            f" {supplied[1]} a week"
+        )
         yield Warned(f"{supply}: if all weeks ask for so many, each shift above costs points")
 
 
@@ -56,9 +66,11 @@ def asked_shifts(data: WeekData) -> Tuple[int, int]:
 def supplied_shifts(
     scenario: Scenario, history: Optional[History], paid: Paid = ()
 ) -> Tuple[int, int]:
-    """The shifts that the contracts ask for at least and allow at most in the first of the weeks that are left, rounded outwards: the same
-    part for each week, without the shifts of its own days away that count as work."""
-    left, zero = scenario.weeks - (history.week if history else 0), Fraction(0)
+    """The shifts that the contracts ask for at least and allow at most in the first of the weeks
+    that are left, rounded outwards: the same part for each week, without the shifts of its own days
+    away that count as work."""
+    left = scenario.weeks - (history.week if history else 0)
+    zero = Fraction(0)
     minimum = most = zero
     for name in scenario.nurses:
         limits = scenario.contract_of(name).assignments
@@ -76,7 +88,8 @@ def supplied_shifts(
 def supply_warnings(
     scenario: Scenario, history: History, weeks: Sequence[WeekData]
 ) -> Iterator[Warned]:
-    """A warning if the best numbers of the weeks to the end of the period ask for more shifts than contracts supply beside absences."""
+    """A warning if the best numbers of the weeks to the end of the period ask for more shifts than
+    contracts supply beside absences."""
     if history.week + len(weeks) != scenario.weeks:
         return
     whole_days = [
@@ -85,7 +98,8 @@ def supply_warnings(
         for absence in absences_of(data)
         if absence.shift is None
     ]
-    supplied, days = 0, len(DAYS) * len(weeks)
+    supplied = 0
+    days = len(DAYS) * len(weeks)
     for nurse in scenario.nurses:
         there = days - len(
             {(number, absence.day) for number, absence in whole_days if absence.nurse == nurse}
@@ -100,14 +114,20 @@ def supply_warnings(
     least, best = (sum(numbers) for numbers in zip(*map(asked_shifts, weeks)))
     if best > supplied:
         hold = {limit.nurse for data in weeks for limit in data.limits if limit.kind == SHIFTS}
-        costs = f"each shift above costs {ASSIGNMENT_TOTAL} points, and a nurse below a best number {MISSING_NURSE}: lower best numbers"
+        costs = (
+            f"each shift above costs {ASSIGNMENT_TOTAL} points, and a nurse below a best number"
+            f" {MISSING_NURSE}: lower best numbers"
+        )
         above = hold.issuperset(scenario.nurses) and least > supplied
         if above:
             costs = (
                 f"{least - supplied} too many to keep the limits that hold: lower minimum numbers"
             )
         elif hold.issuperset(scenario.nurses):
-            costs = f"{best - supplied} will be missing, for {MISSING_NURSE} points each: lower best numbers"
+            costs = (
+                f"{best - supplied} will be missing, for {MISSING_NURSE} points each: lower best"
+                " numbers"
+            )
         supply = f"and the contracts supply at most {supplied} beside absences"
         asks = f"the best numbers ask for {best} shifts, the minimum numbers for {least}"
         yield Warned(f"{asks}, {supply}: {costs}", Reach.NOT_ALL if above else Reach.ALL)
@@ -120,17 +140,10 @@ def can_work(
     nurse: str,
     place: Place,
 ) -> bool:
-    """Whether the nurse has the skill, is not away, and may have the shift on Monday after her last one."""
+    """Whether the nurse has the skill, is not away, and may have the shift on Monday after her last
+    one."""
     last = history.nurses[nurse].last_shift if history and place.day == 0 else None
-    is_free = (
-        Absence(nurse, place.day, None) not in away
-        and Absence(nurse, place.day, place.shift) not in away
-    )
-    return (
-        place.skill in scenario.nurses[nurse].skills
-        and is_free
-        and not scenario.forbids(last, place.shift)
-    )
+    return not obstacles(scenario, away, Cell(nurse, *place), last)
 
 
 def _shortage(
@@ -166,7 +179,8 @@ def _shortage(
 def _fill(
     slot: int, places: Sequence[Place], could: Dict[Place, List[str]], filled: Dict[str, int]
 ) -> Optional[List[str]]:
-    """Finds a nurse for a place, if need be by giving others another place. If there is none, returns all nurses who were tried."""
+    """Finds a nurse for a place, if need be by giving others another place. If there is none,
+    returns all nurses who were tried."""
     came: Dict[str, int] = {}
     waiting = [slot]
     for other in waiting:
@@ -182,7 +196,8 @@ def _fill(
 
 
 def _move(nurse: str, slot: int, came: Dict[str, int], filled: Dict[str, int]) -> None:
-    """Gives the nurse the place for which she was tried, the nurse of that place another one, and so on up to the slot."""
+    """Gives the nurse the place for which she was tried, the nurse of that place another one, and
+    so on up to the slot."""
     holders = {left: who for who, left in filled.items()}
     while True:
         left = filled[nurse] = came[nurse]
@@ -194,9 +209,8 @@ def _move(nurse: str, slot: int, came: Dict[str, int], filled: Dict[str, int]) -
 def _short_of(scenario: Scenario, data: WeekData, short: Sequence[Place], have: int) -> _Short:
     """Places that need more nurses than there are, in words."""
     need = sum(data.requirements[place].minimum for place in short)
-    skills, some = {place.skill for place in short}, [
-        f"{place.shift} {data.requirements[place].minimum}" for place in short
-    ]
+    skills = {place.skill for place in short}
+    some = [f"{place.shift} {data.requirements[place].minimum}" for place in short]
     if len(skills) > 1:
         named = joined(f"{place.shift} {place.skill}" for place in short)
         return _Short(
@@ -218,18 +232,18 @@ def hindrance(
     nurse: str,
     place: Place,
 ) -> str:
-    """Why a nurse with the skill does not fill a place in a roster; empty if nothing hinders her."""
+    """Why a nurse with the skill does not fill a place in a roster; empty if nothing hinders
+    her."""
     shifts = {cell.day: cell.shift for cell in cells if cell.nurse == nurse}
     before = history.nurses[nurse].last_shift if place.day == 0 else shifts.get(place.day - 1)
     after = shifts.get(place.day + 1)
-    if Absence(nurse, place.day, None) in away:
+    found = obstacles(scenario, away, Cell(nurse, *place), before, after)
+    if Obstacle.AWAY in found:
         return "is away"
-    if Absence(nurse, place.day, place.shift) in away:
+    if Obstacle.NEVER in found:
         return f"never works {place.shift} then"
     if place.day in shifts:
         return f"works {shifts[place.day]} on this day"
-    if scenario.forbids(before, place.shift):
+    if Obstacle.FOLLOWS in found:
         return f"works {before} on the day before"
-    if scenario.forbids(place.shift, after):
-        return f"works {after} on the next day"
-    return ""
+    return f"works {after} on the next day" if Obstacle.PRECEDES in found else ""

@@ -1,9 +1,10 @@
-"""Days away as a ward counts them: as what they count in the history before them, for judges, searches and sentences alike; and contracts
-that count for some nurses only.
+"""Days away as a ward counts them: as what they count in the history before them, for judges,
+searches and sentences alike; and contracts that count for some nurses only.
 
-Training counts as a shift a day, and as a weekend with work. An illness counts the shift that it takes from a plan on the wall. Other days,
-such as those of leave, count on Monday to Friday: as a shift for a full contract, and in proportion to the maximum of other ones. On a
-weekend they count only if nothing is on the weekdays beside it.
+Training counts as a shift a day, and as a weekend with work. An illness counts the shift that it
+takes from a plan on the wall. Other days, such as those of leave, count on Monday to Friday: as a
+shift for a full contract, and in proportion to the maximum of other ones. On a weekend they count
+only if nothing is on the weekdays beside it.
 """
 
 import math
@@ -20,11 +21,13 @@ from .rules import SATURDAY
 
 _NAME = re.compile("(.+?)(?:_([0-9]+)_of_([0-9]+)_days)?(_any_days_off)?_*")
 
-ILL, TRAINING = "ill", "training"
+ILL = "ill"
+TRAINING = "training"
 
 
 class Counted(NamedTuple):
-    """As what days away count: the shifts of each nurse's day, those of each nurse in all, rounded up, and her weekends with training."""
+    """As what days away count: the shifts of each nurse's day, those of each nurse in all, rounded
+    up, and her weekends with training."""
 
     days: Mapping[NurseDay, Fraction] = {}
     shifts: Mapping[str, int] = {}
@@ -45,8 +48,9 @@ def counted(
     words: Collection[str],
     lost: Mapping[NurseDay, int] = {},
 ) -> Counted:
-    """As what the days away of a period count for these of their reasons. The contracts are those of the whole period, and `lost` has the
-    shifts that illnesses have taken from plans on the wall, as far as that is known."""
+    """As what the days away of a period count for these of their reasons. The contracts are those
+    of the whole period, and `lost` has the shifts that illnesses have taken from plans on the wall,
+    as far as that is known."""
     days = {
         place: _shifts_of(scenario, reasons, place, lost)
         for place, word in reasons.items()
@@ -77,7 +81,8 @@ def _shifts_of(
     lost: Mapping[NurseDay, int],
 ) -> Fraction:
     """The shifts as which a day away counts."""
-    (nurse, day), word = place, reasons[place]
+    (nurse, day) = place
+    word = reasons[place]
     if word == TRAINING:
         return Fraction(1)
     if word == ILL and place in lost:
@@ -88,8 +93,8 @@ def _shifts_of(
 
 
 def _shifts_of_weekday(scenario: Scenario, nurse: str) -> Fraction:
-    """The shifts of a nurse for each day from Monday to Friday, if she has the most of her contract: one for a full contract. A contract
-    without a maximum has its minimum."""
+    """The shifts of a nurse for each day from Monday to Friday, if she has the most of her
+    contract: one for a full contract. A contract without a maximum has its minimum."""
     minimum, maximum = scenario.contract_of(nurse).assignments
     most = minimum if maximum >= WEEK_DAYS * scenario.weeks else maximum
     return min(Fraction(1), Fraction(most, SATURDAY * scenario.weeks))
@@ -97,11 +102,15 @@ def _shifts_of_weekday(scenario: Scenario, nurse: str) -> Fraction:
 
 def credit_line(nurse: str, days: int, shifts: int, file: str) -> str:
     """Days away that count as work, in words."""
-    return f"{readable(nurse)}: {plural(days, 'day')} away {'counts' if days == 1 else 'count'} as {plural(shifts, 'shift')} in {file}"
+    return (
+        f"{readable(nurse)}: {plural(days, 'day')} away {'counts' if days == 1 else 'count'} as"
+        f" {plural(shifts, 'shift')} in {file}"
+    )
 
 
 def credited(history: History, days_away: Counted) -> History:
-    """The history with the shifts and weekends as which days away count. Raises Misuse if a nurse gets more than a history can have."""
+    """The history with the shifts and weekends as which days away count. Raises Misuse if a nurse
+    gets more than a history can have."""
     nurses = dict(history.nurses)
     for nurse, shifts in days_away.shifts.items():
         past = nurses[nurse]
@@ -116,8 +125,8 @@ def credited(history: History, days_away: Counted) -> History:
 
 
 class PartContract(NamedTuple):
-    """The contract that a nurse's own one is a part of, the days on which it counts, those of the period (0: it counts on all of them), and
-    whether there is no maximum of days off."""
+    """The contract that a nurse's own one is a part of, the days on which it counts, those of the
+    period (0: it counts on all of them), and whether there is no maximum of days off."""
 
     whole: str
     days: int = 0

@@ -1,5 +1,5 @@
-"""Limits that are never exceeded: who exceeds one in a roster, in words, and who could work instead; and the facts that plans are asked
-to keep, as the absences and limits of weeks."""
+"""Limits that are never exceeded: who exceeds one in a roster, in words, and who could work
+instead; and the facts that plans are asked to keep, as the absences and limits of weeks."""
 
 from dataclasses import replace
 from typing import Collection, Iterable, Iterator, List, Optional, Sequence, Tuple
@@ -51,8 +51,9 @@ def excess(charged: Iterable[Charge]) -> int:
 def limits_in_words(
     charged: Iterable[Charge], cells: Sequence[Cell], names: Sequence[str] = DAYS
 ) -> str:
-    """Who exceeds which limit with these assignments, as `Amara has 6 days of work in a row, Tue to Sun, of at most 5`. The days of the
-    week have these names."""
+    """Who exceeds which limit with these assignments, as
+    `Amara has 6 days of work in a row, Tue to Sun, of at most
+    5`. The days of the week have these names."""
     return ", ".join(
         _in_words(charge, sorted({cell.day for cell in cells if cell.nurse == charge.nurse}), names)
         for charge in charged
@@ -65,13 +66,19 @@ def _in_words(charge: Charge, worked: Sequence[int], names: Sequence[str]) -> st
     if charge.rule == "S2":
         first, last = charge.days or (0, 0)
         days = f", to {names[last]}," if charge.before else f", {names[first]} to {names[last]},"
-        return f"{nurse} has {plural(charge.number, 'day')} of work in a row{days} of at most {charge.limit}"
+        return (
+            f"{nurse} has {plural(charge.number, 'day')} of work in a row{days} of at most"
+            f" {charge.limit}"
+        )
     what, above = (
         ("shift", worked[-charge.times :])
         if charge.rule == "S6"
         else ("weekend", [day for day in worked if day >= SATURDAY])
     )
-    return f"{nurse} has {plural(charge.number, what)} of at most {charge.limit}, above on {joined(names[day] for day in above)}"
+    return (
+        f"{nurse} has {plural(charge.number, what)} of at most {charge.limit}, above on"
+        f" {joined(names[day] for day in above)}"
+    )
 
 
 def limits_way_out(week: Week, charged: Sequence[Charge], cells: Sequence[Cell]) -> str:
@@ -87,9 +94,10 @@ def limits_way_out(week: Week, charged: Sequence[Charge], cells: Sequence[Cell])
 
 
 def _with_shifts_left(week: Week, too_many: Sequence[Cell], cells: Sequence[Cell]) -> Iterator[str]:
-    """The nurses who could have one of these assignments, since they are off on its day and not away, and whose contracts have shifts left
-    after this week; and how many."""
-    away, works = absences_of(week.data), {(cell.nurse, cell.day) for cell in cells}
+    """The nurses who could have one of these assignments, since they are off on its day and not
+    away, and whose contracts have shifts left after this week; and how many."""
+    away = absences_of(week.data)
+    works = {(cell.nurse, cell.day) for cell in cells}
     over = {cell.nurse for cell in too_many}
     for nurse, owner in week.scenario.nurses.items():
         worked = week.history.nurses[nurse].assignments + sum(cell.nurse == nurse for cell in cells)
@@ -107,7 +115,8 @@ def _with_shifts_left(week: Week, too_many: Sequence[Cell], cells: Sequence[Cell
 
 
 def read_given(path: PathLike, scenario: Scenario, text: Optional[str] = None) -> Tuple[Claim, ...]:
-    """Reads the facts about the weeks of a period that plans are asked to keep. Raises FileFault if the search cannot keep one."""
+    """Reads the facts about the weeks of a period that plans are asked to keep. Raises FileFault if
+    the search cannot keep one."""
     claims = read_facts(path, scenario, scenario.weeks, text)
     for claim in claims:
         if not _is_kept(claim):

@@ -9,9 +9,11 @@ from .rules import SATURDAY, SUNDAY
 
 
 def _length_on_sunday(has: Callable[[int], bool], before: int) -> int:
-    """For how many days in a row the property holds on Sunday, if it held for `before` days before Monday.
+    """For how many days in a row the property holds on Sunday, if it held for `before` days before
+    Monday.
 
-    A file has no larger number than MAX_NUMBER. Since no limit is larger, a longer run costs the same.
+    A file has no larger number than MAX_NUMBER. Since no limit is larger, a longer run costs the
+    same.
     """
     length = before
     for day in range(7):
@@ -30,9 +32,11 @@ def next_nurse_history(
         0 if new_period else past.assignments + len(shifts),
         0 if new_period else past.weekends + (SATURDAY in shifts or SUNDAY in shifts),
         last_shift=sunday,
-        consecutive_shifts=_length_on_sunday(lambda day: shifts.get(day) == sunday, before)
-        if sunday is not None
-        else 0,
+        consecutive_shifts=(
+            _length_on_sunday(lambda day: shifts.get(day) == sunday, before)
+            if sunday is not None
+            else 0
+        ),
         working_days=_length_on_sunday(lambda day: day in shifts, past.working_days),
         days_off=_length_on_sunday(lambda day: day not in shifts, past.days_off),
     )
@@ -41,10 +45,12 @@ def next_nurse_history(
 def next_history(
     scenario: Scenario, history: History, cells: Iterable[Cell], new_period: bool = False
 ) -> History:
-    """The next week's history. Raises Misuse if a nurse has two assignments on one day, or if the week is the last of its period."""
+    """The next week's history. Raises Misuse if a nurse has two assignments on one day, or if the
+    week is the last of its period."""
     if not new_period and history.week + 1 >= scenario.weeks:
         raise Misuse(
-            f"{week_name(history.week)} is the last of {scenario.weeks}: begin a new period with --new-period"
+            f"{week_name(history.week)} is the last of {scenario.weeks}: begin a new period with"
+            " --new-period"
         )
     shifts: Dict[str, Dict[int, str]] = {nurse: {} for nurse in history.nurses}
     for cell in cells:
@@ -58,6 +64,7 @@ def next_history(
     for nurse, next_one in nurses.items():
         if max(next_one.assignments, next_one.weekends) > MAX_NUMBER:
             raise Misuse(
-                f"{nurse} would have more than {MAX_NUMBER} assignments or weekends: correct her history"
+                f"{nurse} would have more than {MAX_NUMBER} assignments or weekends: correct her"
+                " history"
             )
     return History(0 if new_period else history.week + 1, history.scenario, nurses)

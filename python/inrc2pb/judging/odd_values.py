@@ -24,7 +24,8 @@ IMPOSSIBLE = "no roster can meet it"
 
 
 class Reach(enum.IntEnum):
-    """What plans can reach: all that is asked for, not each absence and limit, or not even the minimum numbers."""
+    """What plans can reach: all that is asked for, not each absence and limit, or not even the
+    minimum numbers."""
 
     ALL = 0
     NOT_ALL = 1
@@ -52,9 +53,15 @@ def scenario_warnings(scenario: Scenario) -> Iterator[str]:
     """Warnings of a scenario."""
     names = (*scenario.skills, *scenario.shift_types, *scenario.contracts, *scenario.nurses)
     if not all(map(is_utf8, names)):
-        yield "it is not saved as UTF-8, so tables and pages have wrong letters: save each file of the ward as UTF-8"
+        yield (
+            "it is not saved as UTF-8, so tables and pages have wrong letters: save each file of"
+            " the ward as UTF-8"
+        )
     for name in filter(obeyed, filter(is_utf8, names)):
-        yield f"the name {printable(name)} has a sign that no table shows: remove it in each file of the ward"
+        yield (
+            f"the name {printable(name)} has a sign that no table shows: remove it in each file of"
+            " the ward"
+        )
     for shift in scenario.shift_types.values():
         yield from _reversed_limits(f"shift type {shift.name}", shift.consecutive)
     for contract in scenario.contracts.values():
@@ -76,9 +83,12 @@ def _reversed_limits(what: str, limits: Limits) -> Iterator[str]:
 
 
 def _too_many_assignments(contract: Contract, weeks: int) -> Iterator[str]:
-    """A warning if the minimum of assignments does not fit the period, or not with the limits of days in a row."""
-    days, minimum = 7 * weeks, contract.assignments.minimum
-    work, off = contract.working_days.maximum, max(1, contract.days_off.minimum)
+    """A warning if the minimum of assignments does not fit the period, or not with the limits of
+    days in a row."""
+    days = 7 * weeks
+    minimum = contract.assignments.minimum
+    work = contract.working_days.maximum
+    off = max(1, contract.days_off.minimum)
     rounds, rest = divmod(days, work + off)
     most = rounds * work + min(rest, work)
     if minimum > days:
@@ -86,11 +96,15 @@ def _too_many_assignments(contract: Contract, weeks: int) -> Iterator[str]:
         yield f"{asks}, and the period has {days} days: count shifts, not hours"
     elif minimum > most:
         in_a_row = f"with at most {work} working days and at least {off} off in a row"
-        yield f"contract {contract.name}: at least {minimum} assignments are asked for, and {days} days have {most} {in_a_row}"
+        yield (
+            f"contract {contract.name}: at least {minimum} assignments are asked for, and"
+            f" {days} days have {most} {in_a_row}"
+        )
 
 
 def history_warnings(history: History, scenario: Optional[Scenario] = None) -> Iterator[str]:
-    """Warnings of a history. With the scenario a nurse may have her contract's minimum of assignments as leave."""
+    """Warnings of a history. With the scenario a nurse may have her contract's minimum of
+    assignments as leave."""
     for past in history.nurses.values():
         yield from _last_days(past)
         yield from _totals(
@@ -104,7 +118,10 @@ def _last_days(past: NurseHistory) -> Iterator[str]:
     """Warnings of days in a row that contradict one another."""
     if past.last_shift is None:
         if past.consecutive_shifts or past.working_days:
-            yield f"{past.nurse} was off on Sunday, but has consecutive shifts or working days: {_CORRECT}"
+            yield (
+                f"{past.nurse} was off on Sunday, but has consecutive shifts or working days:"
+                f" {_CORRECT}"
+            )
         return
     worked = f"{past.nurse} worked on Sunday ({past.last_shift})"
     if past.days_off:
@@ -117,14 +134,21 @@ def _last_days(past: NurseHistory) -> Iterator[str]:
 
 
 def _totals(past: NurseHistory, week: int, leave: int) -> Iterator[str]:
-    """Warnings of totals that the weeks before this one and so many shifts of leave cannot have, or that contradict the days in a row."""
+    """Warnings of totals that the weeks before this one and so many shifts of leave cannot have, or
+    that contradict the days in a row."""
     over = f"{plural(week, 'week')} of the period {'is' if week == 1 else 'are'} over"
     if past.assignments > 7 * week + leave:
-        yield f"{past.nurse} has {plural(past.assignments, 'assignment')}, and {over} (leave with credit?)"
+        yield (
+            f"{past.nurse} has {plural(past.assignments, 'assignment')}, and {over} (leave with"
+            " credit?)"
+        )
     if past.weekends > week:
         yield f"{past.nurse} has {plural(past.weekends, 'weekend')}, and {over}"
     if past.assignments < min(past.working_days, 7 * week):
-        yield f"{past.nurse} has {plural(past.working_days, 'working day')} in a row, and {plural(past.assignments, 'assignment')}"
+        yield (
+            f"{past.nurse} has {plural(past.working_days, 'working day')} in a row, and"
+            f" {plural(past.assignments, 'assignment')}"
+        )
 
 
 def week_warnings(scenario: Scenario, data: WeekData) -> Iterator[Warned]:
@@ -147,7 +171,10 @@ def _odd_number(required: Requirement, have: int) -> Optional[Warned]:
     """A warning of a place for which this number of nurses has the skill."""
     if required.minimum > have:
         cure = f"lower {required.minimum} to {have}, or give more nurses the skill"
-        asks = f"at least {required.minimum} are needed, and {plural(have, 'nurse')} {_has(have)} the skill"
+        asks = (
+            f"at least {required.minimum} are needed, and {plural(have, 'nurse')} {_has(have)} the"
+            " skill"
+        )
         return Warned(f"{asks}: {IMPOSSIBLE}: {cure}", Reach.NONE)
     if required.optimal > have:
         return Warned(
@@ -172,4 +199,7 @@ def _unasked(scenario: Scenario, data: WeekData) -> Iterator[str]:
         }
         asked = any(required.minimum or required.optimal for required in rows.values())
         if not asked and len(rows) < len(scenario.skills) * len(DAYS):
-            yield f"nobody is asked for {shift} on any day: write a row for each skill, with 0 if nobody is needed"
+            yield (
+                f"nobody is asked for {shift} on any day: write a row for each skill, with 0 if"
+                " nobody is needed"
+            )

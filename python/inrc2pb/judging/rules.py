@@ -1,7 +1,8 @@
 """The rules of one week, written from docs/rules.md alone, to be compared with the program.
 
-`python/tests/rules_command.py --sce F --his F --week F [--fix F] [--early] ROSTER` prints the first hard rule that the roster
-breaks as `extend` does; if it breaks none, the penalty and the costs as `decode` reports them.
+`python/tests/rules_command.py --sce F --his F --week F [--fix F] [--early]
+ROSTER` prints the first hard rule that the roster breaks as `extend` does; if it breaks none, the
+penalty and the costs as `decode` reports them.
 """
 
 import collections
@@ -31,16 +32,19 @@ from ..week.soft_rules import (
     WORK_RUN,
 )
 
-SATURDAY, SUNDAY = 5, 6
+SATURDAY = 5
+SUNDAY = 6
 Shifts = Dict[Tuple[str, int], List[str]]
 
 
 class Charge(NamedTuple):
-    """What a soft rule charges: something that occurs a number of times, and the weight of each time.
+    """What a soft rule charges: something that occurs a number of times, and the weight of each
+    time.
 
-    The nurse is None for a place with too few nurses, and `subject` names the place or the shift type, if there is one. `days` are
-    the first and the last day of this week that it concerns; None for days before Monday only, and for the totals of a period.
-    The rule compares `number` with `limit`; `before` is the part of it from before Monday.
+    The nurse is None for a place with too few nurses, and `subject` names the place or the shift
+    type, if there is one. `days` are the first and the last day of this week that it concerns; None
+    for days before Monday only, and for the totals of a period. The rule compares `number` with
+    `limit`; `before` is the part of it from before Monday.
     """
 
     rule: str
@@ -91,7 +95,9 @@ def _has_forbidden_succession(week: Week, shifts: Shifts, nurse: str) -> bool:
 
 def broken(week: Week, roster: Sequence[Cell], held: Iterable[Cell] = ()) -> Iterator[str]:
     """The hard rules that the roster breaks, in their order."""
-    shifts, number, nurses = shifts_by_day(roster), numbers(roster), week.scenario.nurses
+    shifts = shifts_by_day(roster)
+    number = numbers(roster)
+    nurses = week.scenario.nurses
     if any(len(shifts[nurse, day]) > 1 for nurse in nurses for day in range(7)):
         yield "H1"
     if any(number[place] < required.minimum for place, required in week.data.requirements.items()):
@@ -114,8 +120,9 @@ def first_broken(week: Week, roster: Sequence[Cell], held: Iterable[Cell] = ()) 
 
 
 def run_charges(base: Charge, has: Sequence[bool], before: int, limits: Limits) -> Iterator[Charge]:
-    """The days above the maximum and below the minimum in each run of a property, given the days that have it, and the length of
-    its run on the Sunday before. `base` has the rest of the charges."""
+    """The days above the maximum and below the minimum in each run of a property, given the days
+    that have it, and the length of its run on the Sunday before. `base` has the rest of the
+    charges."""
     minimum, maximum = limits
     first = 0
     for day in range(8):
@@ -133,12 +140,14 @@ def run_charges(base: Charge, has: Sequence[bool], before: int, limits: Limits) 
                 yield run._replace(what=f"{base.what} above", limit=maximum, times=above)
             if below > 0:
                 yield run._replace(what=f"{base.what} below", limit=minimum, times=below)
-        first, before = day + 1, 0
+        first = day + 1
+        before = 0
 
 
 def charges(week: Week, roster: Sequence[Cell], early: bool = False) -> Iterator[Charge]:
     """Everything that the soft rules charge: first the places, then each nurse."""
-    shifts, number = shifts_by_day(roster), numbers(roster)
+    shifts = shifts_by_day(roster)
+    number = numbers(roster)
     for place, required in week.data.requirements.items():
         missing = required.optimal - number[place]
         if missing > 0:
@@ -168,8 +177,10 @@ def requests_by_nurse(week: Week) -> Dict[str, List[Request]]:
 def nurse_charges(
     week: Week, shifts: Shifts, requests: Sequence[Request], nurse: str, early: bool = False
 ) -> Iterator[Charge]:
-    """What a nurse with these requests is charged, given the shift types that nurses have on days."""
-    contract, history = week.scenario.contract_of(nurse), week.history.nurses[nurse]
+    """What a nurse with these requests is charged, given the shift types that nurses have on
+    days."""
+    contract = week.scenario.contract_of(nurse)
+    history = week.history.nurses[nurse]
     shift_on = [shifts[nurse, day] for day in range(7)]
     for name, shift in week.scenario.shift_types.items():
         before = history.consecutive_shifts if history.last_shift == name else 0
@@ -179,13 +190,15 @@ def nurse_charges(
             before,
             shift.consecutive,
         )
-    work, off = Charge("S2", "work", nurse, WORK_RUN), Charge("S3", "off", nurse, DAYS_OFF_RUN)
+    work = Charge("S2", "work", nurse, WORK_RUN)
+    off = Charge("S3", "off", nurse, DAYS_OFF_RUN)
     yield from run_charges(
         work, [bool(now) for now in shift_on], history.working_days, contract.working_days
     )
     yield from run_charges(off, [not now for now in shift_on], history.days_off, contract.days_off)
     yield from _request_charges(nurse, shift_on, requests)
-    saturday, sunday = bool(shift_on[SATURDAY]), bool(shift_on[SUNDAY])
+    saturday = bool(shift_on[SATURDAY])
+    sunday = bool(shift_on[SUNDAY])
     if contract.complete_weekends and saturday != sunday:
         day = SATURDAY if saturday else SUNDAY
         yield Charge("S5", "half", nurse, HALF_WEEKEND, days=(day, day))
@@ -223,8 +236,10 @@ def _total_charges(
     week: Week, contract: Contract, history: NurseHistory, works: int, weekend: bool, early: bool
 ) -> Iterator[Charge]:
     """What S6 and S7 charge a nurse."""
-    (minimum, maximum), most = contract.assignments, contract.max_weekends
-    total, weekends = history.assignments + works, history.weekends + weekend
+    (minimum, maximum) = contract.assignments
+    most = contract.max_weekends
+    total = history.assignments + works
+    weekends = history.weekends + weekend
     if week.is_last and total < minimum:
         charge = Charge(
             "S6",
@@ -272,7 +287,8 @@ def nurse_costs(
     week: Week, roster: Sequence[Cell], early: bool = False
 ) -> Dict[str, Dict[str, int]]:
     """The same of each nurse; no nurse pays for S1."""
-    shifts, requests = shifts_by_day(roster), requests_by_nurse(week)
+    shifts = shifts_by_day(roster)
+    requests = requests_by_nurse(week)
     return {
         nurse: cost_by_rule(nurse_charges(week, shifts, requests[nurse], nurse, early))
         for nurse in week.scenario.nurses

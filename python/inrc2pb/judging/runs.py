@@ -1,4 +1,5 @@
-"""What the runs of a nurse cost, day by day: S2, S3 and S5, with the shift types that may follow one another.
+"""What the runs of a nurse cost, day by day: S2, S3 and S5, with the shift types that may follow
+one another.
 
 A choice is 0 for a day off, and one more than the index of its shift type otherwise.
 """
@@ -14,8 +15,9 @@ NEVER = 1 << 50
 
 
 class RunState(NamedTuple):
-    """The runs that are open at the end of a day, and the choice of that day. `trained` is the run of days with work and training, if it
-    has training, and `is_due` says that no day of it could have been off. If `is_called`, a choice differs from that of an older row.
+    """The runs that are open at the end of a day, and the choice of that day. `trained` is the run
+    of days with work and training, if it has training, and `is_due` says that no day of it could
+    have been off. If `is_called`, a choice differs from that of an older row.
     """
 
     choice: int
@@ -32,9 +34,10 @@ ANY_CHOICE = 255
 
 
 class Beside(NamedTuple):
-    """A nurse's days away that concern the days beside them: those of training, which is work in a row, and those before which she should
-    have none of these shift types. Each day that is otherwise costs so much, in points; days before `fixed` do not change. A row that
-    differs from the older one costs `call` points.
+    """A nurse's days away that concern the days beside them: those of training, which is work in a
+    row, and those before which she should have none of these shift types. Each day that is
+    otherwise costs so much, in points; days before `fixed` do not change. A row that differs from
+    the older one costs `call` points.
     """
 
     training: FrozenSet[int] = frozenset()
@@ -63,10 +66,12 @@ def ended(run: int, limits: Limits, weight: int) -> int:
 
 
 class Runs:
-    """What a day adds to the runs of nurses with one contract. Without `charging` only the shift types that may not follow count.
+    """What a day adds to the runs of nurses with one contract. Without `charging` only the shift
+    types that may not follow count.
 
-    `shift_run` is the weight of a charge of a run of a shift type, and `above` what a day of work above the maximum in a row costs more, in
-    points; NEVER forbids it. `beside` has days away that concern the days beside them.
+    `shift_run` is the weight of a charge of a run of a shift type, and `above` what a day of work
+    above the maximum in a row costs more, in points; NEVER forbids it. `beside` has days away that
+    concern the days beside them.
     """
 
     def __init__(
@@ -79,13 +84,11 @@ class Runs:
         above: int = 0,
         beside: Beside = Beside(),
     ) -> None:
-        self.days, self.charging, self.contract, self._shift_run, self._above = (
-            days,
-            charging,
-            contract,
-            shift_run,
-            above,
-        )
+        self.days = days
+        self.charging = charging
+        self.contract = contract
+        self._shift_run = shift_run
+        self._above = above
         self._beside = beside
         self._known: Dict[Tuple[int, RunState], List[Step]] = {}
         self.shifts = [Limits(0, 0), *(kind.consecutive for kind in types)]
@@ -94,7 +97,8 @@ class Runs:
         self.forbidden = successions(types)
 
     def before(self, past: NurseHistory) -> RunState:
-        """The state before the first day. The numbers of a history may contradict one another: all of them count."""
+        """The state before the first day. The numbers of a history may contradict one another: all
+        of them count."""
         choice = 0 if past.last_shift is None else self.numbers[past.last_shift]
         return self.state(
             choice,
@@ -115,7 +119,8 @@ class Runs:
         )
 
     def steps(self, day: int, now: RunState) -> List[Step]:
-        """For each choice on a day what it costs, in points, and the state at its end; NEVER, if a hard rule forbids it."""
+        """For each choice on a day what it costs, in points, and the state at its end; NEVER, if a
+        hard rule forbids it."""
         steps = self._known.get((day, now))
         if steps is None:
             steps = self._known[day, now] = (
@@ -131,7 +136,9 @@ class Runs:
         ]
 
     def _steps(self, day: int, now: RunState) -> List[Step]:
-        work, off, left = self.contract.working_days, self.contract.days_off, self.days - day - 1
+        work = self.contract.working_days
+        off = self.contract.days_off
+        left = self.days - day - 1
         half = HALF_WEEKEND if day % len(DAYS) == SUNDAY and self.contract.complete_weekends else 0
         closed = ended(now.shift_run, self.shifts[now.choice], self._shift_run)
         off_above = DAYS_OFF_RUN if now.off_run + 1 > off.maximum else 0
@@ -141,7 +148,8 @@ class Runs:
         steps = [(rest, self.state(0, 0, 0, now.off_run + 1, left))]
         work_above = WORK_RUN + self._above if now.work_run + 1 > work.maximum else 0
         works = ended(now.off_run, off, DAYS_OFF_RUN) + work_above + (0 if now.choice else half)
-        run, forbidden = shortened(now.work_run + 1, work, left), self.forbidden[now.choice]
+        run = shortened(now.work_run + 1, work, left)
+        forbidden = self.forbidden[now.choice]
         for choice, limits in enumerate(self.shifts[1:], 1):
             if choice in forbidden or works >= NEVER:
                 steps.append((NEVER, now))
@@ -158,15 +166,16 @@ class Runs:
         )
 
     def _with_days_away(self, day: int, before: RunState, step: Step) -> Step:
-        """The step with the run of work and training at the end of the day, and with what that, a night before and a call cost."""
-        (cost, now), away, limits = (
-            step,
-            self._beside,
-            Limits(1, self.contract.working_days.maximum),
-        )
-        run, is_due = 0, False
+        """The step with the run of work and training at the end of the day, and with what that, a
+        night before and a call cost."""
+        (cost, now) = step
+        away = self._beside
+        limits = Limits(1, self.contract.working_days.maximum)
+        run = 0
+        is_due = False
         if now.choice:
-            run, is_due = before.trained + bool(before.trained), before.is_due and day < away.fixed
+            run = before.trained + bool(before.trained)
+            is_due = before.is_due and day < away.fixed
         elif day in away.training:
             run = (before.trained or before.work_run) + 1
             is_due = before.is_due if before.trained else not before.work_run or day <= away.fixed

@@ -1,34 +1,44 @@
 """Exchanges of days between nurses that cost nothing, and make nights and weekends more even.
 
-Two or three nurses exchange days in a circle: on these days each has the shifts of the next one, so each place keeps its number of nurses.
-What they are charged together stays the same, and nothing that holds is broken. Most exchanges that are tried are no good, so days are the
-bits of numbers here: a few steps tell how many nights and weekends an exchange leaves to each.
+Two or three nurses exchange days in a circle: on these days each has the shifts of the next one, so
+each place keeps its number of nurses. What they are charged together stays the same, and nothing
+that holds is broken. Most exchanges that are tried are no good, so days are the bits of numbers
+here: a few steps tell how many nights and weekends an exchange leaves to each.
 
-A search for exchanges ends after so much work, and looks at no clock, so a busy machine makes the same plan as a quiet one.
+A search for exchanges ends after so much work, and looks at no clock, so a busy machine makes the
+same plan as a quiet one.
 """
 
 import itertools
 import random
-from typing import Dict, Iterable, Iterator, List, Mapping, NamedTuple, Optional, Set, Tuple
+from typing import Callable, Dict, Iterable, Iterator, Mapping, NamedTuple, Optional, Set, Tuple
 
-from ..judging.absences import is_broken_by
 from ..judging.rules import SATURDAY
-from ..judging.runs import NEVER, Runs
 from ..week.records import WEEK_DAYS, Cell, NurseDay
-from ..week.soft_rules import ASSIGNMENT_TOTAL, REQUEST, WEEKEND_TOTAL
 from .fairness import Share, contracts_of, evenness, shares_before
-from .swaps import NurseWeeks, by_nurse
+from .nurse_weeks import NurseWeeks, by_nurse
+from .row_costs import RowCosts, Work
 from .ward import WardPlan
 
-# Work is counted in steps of about the same time: one for an exchange that is tried, and more to see whether nurses may have its shifts, to
-# make its rows, and for a new row to see what it costs and what it breaks. A quiet machine makes about so many steps in a second.
+# Work is counted in steps of about the same time: one for an exchange that is tried, and more to
+# see whether nurses may have its shifts, to make its rows, and for a new row to see what it costs
+# and what it breaks. A quiet machine makes about so many steps in a second.
 STEPS_A_SECOND = 100_000
-_TRIED, _FITTED, _MADE, _CHARGED, _JUDGED = 1, 4, 5, 4, 20
-# How many exchanges are tried on a way to more even ones, and the points that a plan may cost more on it.
-_TRIES, _SLACK = 400, (0, 0, 30, 60, 90)
-# How many days in a row are exchanged, and how many nurses and rows of days take part: each is as likely as it is often here.
+_TRIED = 1
+_FITTED = 4
+_MADE = 5
+
+
+_JUDGED = 20
+# How many exchanges are tried on a way to more even ones, and the points that a plan may cost more
+# on it.
+_TRIES = 400
+_SLACK = (0, 0, 30, 60, 90)
+# How many days in a row are exchanged, and how many nurses and rows of days take part: each is as
+# likely as it is often here.
 _LENGTHS = (1, 1, 2, 2, 2, 3, 3, 4, 4, 5, 6, 7, 10, 14)
-_NURSES, _ROWS = (2, 2, 3), (1, 1, 2)
+_NURSES = (2, 2, 3)
+_ROWS = (1, 1, 2)
 _Row = Mapping[int, Cell]
 # Days as the bits of a number.
 _Bits = int
@@ -46,11 +56,14 @@ class _Exchange(NamedTuple):
         return zip(self.nurses, (*self.nurses[1:], self.nurses[0]))
 
 
-def more_even(plan: WardPlan, first: int, steps: int) -> WardPlan:
-    """The plan after exchanges of days from the first one on, with so many steps of work, which make nights or weekends more even, and
-    neither less. Exchanges that leave both as they are come between, since they make room for others, and some that cost points which later
+def more_even(
+    plan: WardPlan, first: int, steps: int, ends: Callable[[], bool] = lambda: False
+) -> WardPlan:
+    """The plan after exchanges of days from the first one on, with so many steps of work, or until
+    it `ends`, which make nights or weekends more even, and neither less. Exchanges that leave both
+    as they are come between, since they make room for others, and some that cost points which later
     ones save again."""
-    work = _Work(steps)
+    work = Work(steps, ends)
     exchanges = _Exchanges(plan, first, work)
     while not (work.is_done or exchanges.is_even):
         if not exchanges.improved():
@@ -58,89 +71,15 @@ def more_even(plan: WardPlan, first: int, steps: int) -> WardPlan:
     return plan.with_cells(cell for row in exchanges.rows.values() for cell in row.values())
 
 
-class _Work:
-    """The steps of work that are left."""
-
-    def __init__(self, steps: int) -> None:
-        self._left = steps
-
-    def takes(self, steps: int) -> None:
-        """So many steps are done."""
-        self._left -= steps
-
-    @property
-    def is_done(self) -> bool:
-        """Whether no steps are left."""
-        return self._left <= 0
-
-
-class _RowCosts:
-    """What a nurse is charged for a row of choices: 0 for a day off, and one more than the index of its shift type otherwise. Limits that
-    hold and days away do not count here."""
-
-    def __init__(self, plan: WardPlan, work: _Work) -> None:
-        types, self._past, self._work = (
-            list(plan.scenario.shift_types.values()),
-            plan.past.nurses,
-            work,
-        )
-        self._contracts = {name: plan.scenario.contract_of(name) for name in plan.scenario.nurses}
-        number = plan.days.total - plan.first
-        self._runs = {
-            name: Runs(types, contract, number) for name, contract in self._contracts.items()
-        }
-        self.numbers = {kind.name: index for index, kind in enumerate(types, 1)}
-        self._wishes: Dict[str, List[Tuple[int, int]]] = {name: [] for name in plan.scenario.nurses}
-        for week in plan.weeks:
-            for wish in plan.data[week].requests:
-                day = WEEK_DAYS * week + wish.day - plan.first
-                self._wishes[wish.nurse].append(
-                    (day, self.numbers[wish.shift] if wish.shift else 0)
-                )
-        self._known: Dict[Tuple[str, bytes], int] = {}
-
-    def of(self, nurse: str, row: bytes) -> int:
-        """The charges; NEVER if a shift type may not follow another one."""
-        known = self._known.get((nurse, row))
-        if known is None:
-            self._work.takes(_CHARGED)
-            known = self._known[nurse, row] = self._cost(nurse, row)
-        return known
-
-    def _cost(self, nurse: str, row: bytes) -> int:
-        runs, past, (minimum, most) = (
-            self._runs[nurse],
-            self._past[nurse],
-            self._contracts[nurse].assignments,
-        )
-        state, cost = runs.before(past), 0
-        for day, choice in enumerate(row):
-            step, state = runs.steps(day, state)[choice]
-            if step >= NEVER:
-                return NEVER
-            cost += step
-        total = past.assignments + len(row) - row.count(0)
-        weekends = past.weekends + sum(
-            any(row[day : day + 2]) for day in range(SATURDAY, len(row), WEEK_DAYS)
-        )
-        cost += ASSIGNMENT_TOTAL * max(0, minimum - total, total - most)
-        cost += WEEKEND_TOTAL * max(0, weekends - self._contracts[nurse].max_weekends)
-        return cost + REQUEST * sum(
-            bool(row[day]) and choice in (0, row[day]) for day, choice in self._wishes[nurse]
-        )
-
-
 class _Exchanges:
     """The rows of nurses, and exchanges in them, in a random order that is always the same."""
 
-    def __init__(self, plan: WardPlan, first: int, work: _Work) -> None:
-        self._plan, self._alone, self._work, self._random = (
-            plan,
-            NurseWeeks(plan),
-            work,
-            random.Random(1),
-        )
-        self._costs = _RowCosts(plan, work)
+    def __init__(self, plan: WardPlan, first: int, work: Work) -> None:
+        self._plan = plan
+        self._alone = NurseWeeks(plan)
+        self._work = work
+        self._random = random.Random(1)
+        self._costs = RowCosts(plan, work)
         self.rows: Dict[str, _Row] = dict(by_nurse(plan, plan.works))
         self._before = shares_before(plan, plan.first)
         self._firm = {*plan.held, *plan.state.kept}
@@ -171,7 +110,8 @@ class _Exchanges:
         self.rows.update(new)
         self._is_even = None
         self._searched = {pair for pair in self._searched if not new.keys() & set(pair)}
-        nights, numbers = self._plan.days_away.nights, self._costs.numbers
+        nights = self._plan.days_away.nights
+        numbers = self._costs.numbers
         days = range(self._plan.first, self._plan.days.total)
         for nurse, row in new.items():
             self._works[nurse] = _bits(row)
@@ -182,7 +122,8 @@ class _Exchanges:
 
     @property
     def is_even(self) -> bool:
-        """Whether no exchange can help, since the numbers of each contract differ by one at most."""
+        """Whether no exchange can help, since the numbers of each contract differ by one at
+        most."""
         if self._is_even is None:
             shared = evenness(
                 self._plan.with_cells(cell for row in self.rows.values() for cell in row.values())
@@ -196,8 +137,9 @@ class _Exchanges:
         return self._is_even
 
     def improved(self) -> bool:
-        """Makes the first exchange of two nurses of a contract, of days in a row, that is more even and costs nothing. Returns whether
-        there is one; a pair is tried again only after one of their rows has changed."""
+        """Makes the first exchange of two nurses of a contract, of days in a row, that is more even
+        and costs nothing. Returns whether there is one; a pair is tried again only after one of
+        their rows has changed."""
         pairs = (pair for group in self._groups for pair in itertools.combinations(group, 2))
         for pair in (pair for pair in pairs if pair not in self._searched):
             for exchange in (_Exchange(pair, days) for days in self._spans):
@@ -218,9 +160,12 @@ class _Exchanges:
         return True
 
     def wander(self) -> None:
-        """Tries some exchanges, and makes those that leave nights and weekends no less even. At its end the plan costs what it cost
-        before: exchanges that cost points hold if later ones have saved these again."""
-        most, above, best = self._random.choice(_SLACK), 0, dict(self.rows)
+        """Tries some exchanges, and makes those that leave nights and weekends no less even. At its
+        end the plan costs what it cost before: exchanges that cost points hold if later ones have
+        saved these again."""
+        most = self._random.choice(_SLACK)
+        above = 0
+        best = dict(self.rows)
         for exchange in itertools.islice(self._tried(), _TRIES):
             if not (exchange.days and self._is_as_even(exchange) and self._fits(exchange)):
                 continue
@@ -239,10 +184,10 @@ class _Exchanges:
             yield self._any()
 
     def _any(self) -> _Exchange:
-        """An exchange of two nurses of a contract, or of them and one more, on one row of days, or on two."""
-        pick, nurses = self._random.choice, self._random.sample(
-            self._random.choice(self._groups), 2
-        )
+        """An exchange of two nurses of a contract, or of them and one more, on one row of days, or
+        on two."""
+        pick = self._random.choice
+        nurses = self._random.sample(self._random.choice(self._groups), 2)
         if pick(_NURSES) == 3 and len(self.rows) > 2:
             nurses.append(pick([nurse for nurse in self.rows if nurse not in nurses]))
         days = 0
@@ -267,11 +212,8 @@ class _Exchanges:
 
     def _may_have(self, nurse: str, day: int, cell: Optional[Cell]) -> bool:
         """Whether a nurse may have a shift of another one on a day, or may be off."""
-        if NurseDay(nurse, day) in self._firm:
-            return False
-        has_skill = cell is None or cell.skill in self._plan.scenario.nurses[nurse].skills
-        return has_skill and (
-            cell is None or not is_broken_by(self._plan.absences, cell._replace(nurse=nurse))
+        return NurseDay(nurse, day) not in self._firm and (
+            cell is None or self._plan.may_have(cell._replace(nurse=nurse))
         )
 
     def _share(self, before: Share, works: _Bits, nights: _Bits) -> Share:
@@ -280,11 +222,16 @@ class _Exchanges:
         return Share(before.nights + nights.bit_count(), before.weekends + weekends.bit_count())
 
     def _squares(self, exchange: _Exchange) -> Optional[Tuple[int, int]]:
-        """By how much the sums of the squares of nights and of weekends grow, of the nurses with the contract of the first one; None if
-        another one has more of either then."""
-        days, group, nights, weekends = exchange.days, self._group[exchange.nurses[0]], 0, 0
+        """By how much the sums of the squares of nights and of weekends grow, of the nurses with
+        the contract of the first one; None if another one has more of either then."""
+        days = exchange.days
+        group = self._group[exchange.nurses[0]]
+        nights = 0
+        weekends = 0
         for nurse, giver in exchange.givers:
-            works, at_night, before = self._works[nurse], self._nights[nurse], self._before[nurse]
+            works = self._works[nurse]
+            at_night = self._nights[nurse]
+            before = self._before[nurse]
             old = self._share(before, works, at_night)
             now = self._share(
                 before,
@@ -343,7 +290,8 @@ class _Exchanges:
         }
 
     def _keeps_all(self, new: Mapping[str, _Row]) -> bool:
-        """Whether these rows break nothing that holds, and exceed it by no more, than those of now."""
+        """Whether these rows break nothing that holds, and exceed it by no more, than those of
+        now."""
         before, now = (
             [sum(numbers) for numbers in zip(*(self._broken(nurse, rows[nurse]) for nurse in new))]
             for rows in (self.rows, new)

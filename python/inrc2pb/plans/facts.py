@@ -1,6 +1,8 @@
-"""Facts about a plan that its reader should know: what it does not keep, what is odd beside days away, which wishes it does not grant.
+"""Facts about a plan that its reader should know: what it does not keep, what is odd beside days
+away, which wishes it does not grant.
 
-They are values; `render` has their words. Days are those of the plan, but in charges and shifts of one week, which have the days of it.
+They are values; `sentences` has their words. Days are those of the plan, but in charges and shifts
+of one week, which have the days of it.
 """
 
 from dataclasses import replace
@@ -21,7 +23,8 @@ _TOTAL = "S6"
 
 
 class Unkept(NamedTuple):
-    """What a week of a plan does not keep: shifts on days away, or charges above limits that hold."""
+    """What a week of a plan does not keep: shifts on days away, or charges above limits that
+    hold."""
 
     week: int
     working: Tuple[Cell, ...] = ()
@@ -37,8 +40,9 @@ class Broken(NamedTuple):
 
 
 class TooMany(NamedTuple):
-    """A nurse's shifts of the period, with those for days away; the most by the spreadsheet, and the most that a search keeps. `last` is
-    the last day from which a plan can take the others away, if there is one."""
+    """A nurse's shifts of the period, with those for days away; the most by the spreadsheet, and
+    the most that a search keeps. `last` is the last day from which a plan can take the others away,
+    if there is one."""
 
     nurse: str
     shifts: int
@@ -48,8 +52,9 @@ class TooMany(NamedTuple):
 
 
 class Beside(NamedTuple):
-    """What is wrong beside days away of a nurse: too many days in a row with work and training, of which the contract has `most` with work,
-    or a shift of the night before a day away with this word."""
+    """What is wrong beside days away of a nurse: too many days in a row with work and training, of
+    which the contract has `most` with work, or a shift of the night before a day away with this
+    word."""
 
     nurse: str
     days: Tuple[int, int]
@@ -60,7 +65,8 @@ class Beside(NamedTuple):
 
 
 class Due(NamedTuple):
-    """A charge of a week in which days away have a part: the points that are due to them, and their words."""
+    """A charge of a week in which days away have a part: the points that are due to them, and their
+    words."""
 
     week: int
     charge: Charge
@@ -69,8 +75,8 @@ class Due(NamedTuple):
 
 
 def promised_days(plan: WardPlan) -> List[NurseDay]:
-    """The nurses' days of the weeks that are not over that are promised, and so planned: those that were set, and the days off and the
-    shifts that the spreadsheet promises."""
+    """The nurses' days of the weeks that are not over that are promised, and so planned: those that
+    were set, and the days off and the shifts that the spreadsheet promises."""
     promised: Dict[NurseDay, Optional[Cell]] = {**plan.held}
     promised.update((place, None) for place, word in plan.away.items() if word == PROMISED)
     promised.update((place, promise.cell) for place, promise in plan.state.promised.items())
@@ -78,7 +84,8 @@ def promised_days(plan: WardPlan) -> List[NurseDay]:
 
 
 class Agreement(NamedTuple):
-    """A nurse's day that later plans should keep, and the shift on it, or None for a day off: that of a swap, or one that was set."""
+    """A nurse's day that later plans should keep, and the shift on it, or None for a day off: that
+    of a swap, or one that was set."""
 
     place: NurseDay
     cell: Optional[Cell]
@@ -86,13 +93,14 @@ class Agreement(NamedTuple):
 
 
 def unkept(plan: WardPlan) -> List[Unkept]:
-    """What the weeks that are not over do not keep: who works while she is away, and who has more than a limit that holds."""
+    """What the weeks that are not over do not keep: who works while she is away, and who has more
+    than a limit that holds."""
     missed: List[Unkept] = []
     for number in plan.weeks:
-        week, cells = plan.week(number), plan.state.roster(number)
-        working, above = working_while_away(absences_of(week.data), cells), exceeded(
-            week, week.data.limits, cells
-        )
+        week = plan.week(number)
+        cells = plan.state.roster(number)
+        working = working_while_away(absences_of(week.data), cells)
+        above = exceeded(week, week.data.limits, cells)
         if working:
             missed.append(Unkept(number, working=tuple(working)))
         if above:
@@ -100,16 +108,24 @@ def unkept(plan: WardPlan) -> List[Unkept]:
     return missed
 
 
+def while_away(plan: WardPlan) -> int:
+    """How many shifts of the plan nurses have while they are away, or of types that they never
+    work."""
+    return sum(len(missed.working) for missed in unkept(plan))
+
+
 def broken(plan: WardPlan, number: int) -> List[Broken]:
     """The hard rules and limits that hold that a week of the plan breaks."""
-    week, cells = plan.week(number), plan.state.roster(number)
+    week = plan.week(number)
+    cells = plan.state.roster(number)
     rules = [Broken(number, breach.plain) for breach in breaches(week, cells)]
     above = exceeded(week, week.data.limits, cells)
     return [*rules, Broken(number, above=tuple(above))] if above else rules
 
 
 def exceeded_in_weeks(plan: WardPlan) -> Iterator[Tuple[int, Charge]]:
-    """The limits that hold, but for those of the period, that the weeks of a plan exceed, if there is a plan."""
+    """The limits that hold, but for those of the period, that the weeks of a plan exceed, if there
+    is a plan."""
     for number in plan.weeks if plan.is_planned else ():
         week = plan.week(number)
         charged = exceeded(week, week.data.limits, plan.state.roster(number))
@@ -128,9 +144,8 @@ def too_many_shifts(plan: WardPlan) -> List[TooMany]:
             and fact.kind == SHIFTS
             and fact.nurse is not None
         ):
-            contract, shifts = plan.scenario.contract_of(
-                fact.nurse
-            ).assignments.maximum, plan.shifts_of(fact.nurse)
+            contract = plan.scenario.contract_of(fact.nurse).assignments.maximum
+            shifts = plan.shifts_of(fact.nurse)
             most = contract + fact.most
             if shifts > most:
                 too_many.append(
@@ -146,7 +161,8 @@ def too_many_shifts(plan: WardPlan) -> List[TooMany]:
 
 
 def _last_to_take(plan: WardPlan, nurse: str, number: int) -> Optional[int]:
-    """The last day from which a plan can take so many shifts of a nurse away: they are not over, not held, and not on days away."""
+    """The last day from which a plan can take so many shifts of a nurse away: they are not over,
+    not held, and not on days away."""
     free = sorted(
         place.day
         for place in plan.works
@@ -160,7 +176,8 @@ def too_many_by_days_away(plan: WardPlan) -> List[TooMany]:
     return [many for many in too_many_shifts(plan) if many.shifts <= many.kept]
 
 
-# A maximum that holds and is exceeded: its nurse, its rule, and its week, or for days in a row with training their first day.
+# A maximum that holds and is exceeded: its nurse, its rule, and its week, or for days in a row with
+# training their first day.
 _Exceeded = Tuple[str, str, int]
 
 
@@ -171,7 +188,8 @@ def newly_exceeded(old: Optional[WardPlan], new: WardPlan) -> bool:
 
 
 def _exceeded(plan: WardPlan) -> Dict[_Exceeded, int]:
-    """By how much each maximum that holds is exceeded, with shifts for days away and with days in a row with training."""
+    """By how much each maximum that holds is exceeded, with shifts for days away and with days in a
+    row with training."""
     exceeded_by: Dict[_Exceeded, int] = {
         (charge.nurse or "", charge.rule, week): charge.times
         for week, charge in exceeded_in_weeks(plan)
@@ -201,7 +219,8 @@ def beside_days_away(plan: WardPlan) -> List[Beside]:
 
 
 def beside_of(plan: WardPlan, away: DaysAway, shifts: Mapping[NurseDay, str]) -> List[Beside]:
-    """The same with these days away and shift types, both by the days from the first one that is not over."""
+    """The same with these days away and shift types, both by the days from the first one that is
+    not over."""
     first = plan.first
     rows = long_rows(plan.scenario, plan.past, away, shifts)
     odd = [
@@ -229,7 +248,8 @@ def beside_of(plan: WardPlan, away: DaysAway, shifts: Mapping[NurseDay, str]) ->
 
 
 def sums(plan: WardPlan) -> Dict[str, Sums]:
-    """What each nurse has in the whole period: in weeks that are over, and in those that are planned."""
+    """What each nurse has in the whole period: in weeks that are over, and in those that are
+    planned."""
     wishes = [
         replace(wish, day=WEEK_DAYS * number + wish.day)
         for number, week in enumerate(plan.data)
@@ -241,7 +261,8 @@ def sums(plan: WardPlan) -> Dict[str, Sums]:
 
 
 def refused_wishes(plan: WardPlan) -> List[Request]:
-    """The wishes of the weeks that are not over that the plan does not grant, with days of the plan."""
+    """The wishes of the weeks that are not over that the plan does not grant, with days of the
+    plan."""
     works = {(cell.nurse, cell.day, shift) for cell in plan.cells for shift in (cell.shift, None)}
     asked = [
         replace(wish, day=WEEK_DAYS * number + wish.day)
@@ -252,14 +273,16 @@ def refused_wishes(plan: WardPlan) -> List[Request]:
 
 
 def lost_wishes(old: Optional[WardPlan], new: WardPlan) -> List[Request]:
-    """The wishes that are not granted, or only those that an older plan grants and this one does not."""
+    """The wishes that are not granted, or only those that an older plan grants and this one does
+    not."""
     before = refused_wishes(old) if old else []
     return [wish for wish in refused_wishes(new) if wish not in before]
 
 
 def due_to_days_away(plan: WardPlan) -> List[Due]:
-    """The charges in which days away have a part: `inrc2pb` knows no days away, so they are days off, a day of a weekend or the end of days
-    of work for it, and their shifts and weekends are in the totals of the period."""
+    """The charges in which days away have a part: `inrc2pb` knows no days away, so they are days
+    off, a day of a weekend or the end of days of work for it, and their shifts and weekends are in
+    the totals of the period."""
     due: List[Due] = []
     for week in plan.view().weeks:
         for charge in week.charges or ():
@@ -281,15 +304,17 @@ def _due(plan: WardPlan, number: int, charge: Charge, nurse: str) -> Tuple[int, 
             if who == nurse and shifts and (charge.rule == "S6" or day % WEEK_DAYS >= SATURDAY)
         ]
         return charge.weight * min(charge.times, total), _away_words(plan, nurse, some)
-    if not charge.days:
-        return 0, ()
-    first, last = (WEEK_DAYS * number + day for day in charge.days)
-    days: Mapping[Tuple[str, str], Sequence[int]] = {
-        ("S3", "off above"): range(first - charge.before, last + 1),
-        ("S5", "half"): (first + (1 if first % WEEK_DAYS == SATURDAY else -1),),
-        ("S2", "work below"): (first - charge.before - 1, last + 1),
+    # A run without days ended on the Sunday before the week.
+    first, last = (WEEK_DAYS * number + day for day in charge.days or (0, -1))
+    run = range(first - charge.before, last + 1)
+    days: Mapping[str, Sequence[int]] = {
+        "off above": run,
+        "off below": run,
+        "half": (first + (1 if first % WEEK_DAYS == SATURDAY else -1),),
+        "work below": (run.start - 1, run.stop),
+        "shift below": (run.start - 1, run.stop),
     }
-    return charge.cost, _away_words(plan, nurse, days.get((charge.rule, charge.what), ()))
+    return charge.cost, _away_words(plan, nurse, days.get(charge.what, ()))
 
 
 def _away_words(plan: WardPlan, nurse: str, days: Iterable[int]) -> Tuple[str, ...]:
@@ -304,8 +329,8 @@ def _away_words(plan: WardPlan, nurse: str, days: Iterable[int]) -> Tuple[str, .
 
 
 def broken_agreements(old: WardPlan, new: WardPlan) -> List[Agreement]:
-    """What a new plan does not keep of the days of swaps, and of those that were set. A promise to a nurse who is away is told once: the
-    older plan had kept it."""
+    """What a new plan does not keep of the days of swaps, and of those that were set. A promise to
+    a nurse who is away is told once: the older plan had kept it."""
     kept = {*new.state.agreed, *new.state.promised}
     swaps = [
         Agreement(place, old.works.get(place)) for place in old.state.agreed if place not in kept

@@ -5,11 +5,10 @@ Only nurses of the same contract are compared, and only those who may work at ni
 
 from typing import Dict, Iterator, List, Mapping, NamedTuple, Sequence, Tuple
 
-from ..judging.absences import is_broken_by
 from ..judging.leave import part_contract
 from ..judging.rules import SATURDAY
 from ..week.records import WEEK_DAYS, Cell, NurseDay
-from .swaps import by_nurse
+from .nurse_weeks import by_nurse
 from .ward import WardPlan
 
 
@@ -21,7 +20,8 @@ class Share(NamedTuple):
 
 
 class Spread(NamedTuple):
-    """The fewest and the most nights, or weekends, that nurses of a contract have who may work them."""
+    """The fewest and the most nights, or weekends, that nurses of a contract have who may work
+    them."""
 
     contract: str
     fewest: int
@@ -29,14 +29,16 @@ class Spread(NamedTuple):
 
 
 class Evenness(NamedTuple):
-    """How evenly nights and weekends are shared, for each contract that several nurses have who may work them."""
+    """How evenly nights and weekends are shared, for each contract that several nurses have who may
+    work them."""
 
     nights: Tuple[Spread, ...]
     weekends: Tuple[Spread, ...]
 
 
 def shares(plan: WardPlan) -> Dict[str, Share]:
-    """The nights and weekends of each nurse in the period, in weeks that are over and in those that are planned."""
+    """The nights and weekends of each nurse in the period, in weeks that are over and in those that
+    are planned."""
     return shares_before(plan, plan.days.total)
 
 
@@ -56,7 +58,8 @@ def _share(plan: WardPlan, row: Mapping[int, Cell]) -> Share:
 
 def evenness(plan: WardPlan) -> Evenness:
     """How even a plan is."""
-    by_nurse, owners = shares(plan), contracts_of(plan)
+    by_nurse = shares(plan)
+    owners = contracts_of(plan)
     nights = {
         name: [by_nurse[nurse].nights for nurse in nurses if may_work_nights(plan, nurse)]
         for name, nurses in owners.items()
@@ -92,17 +95,13 @@ def may_work_nights(plan: WardPlan, nurse: str) -> bool:
 
 
 def may_work_weekends(plan: WardPlan, nurse: str) -> bool:
-    """Whether a nurse could have a shift on some weekend of them, and her contract has a weekend with work."""
+    """Whether a nurse could have a shift on some weekend of them, and her contract has a weekend
+    with work."""
     on_weekend = any(place.day % WEEK_DAYS >= SATURDAY for place in _places_of(plan, nurse))
     return plan.scenario.contract_of(nurse).max_weekends > 0 and on_weekend
 
 
 def _places_of(plan: WardPlan, nurse: str) -> Iterator[Cell]:
     """The shifts that a nurse could have, by her skills and absences."""
-    skills = plan.scenario.nurses[nurse].skills
-    cells = (
-        Cell(nurse, *place)
-        for place, needed in plan.needs.items()
-        if needed.optimal and place.skill in skills
-    )
-    return (cell for cell in cells if not is_broken_by(plan.absences, cell))
+    cells = (Cell(nurse, *place) for place, needed in plan.needs.items() if needed.optimal)
+    return filter(plan.may_have, cells)

@@ -3,15 +3,11 @@
 import threading
 import time
 from pathlib import Path
-from typing import Callable, Generic, Hashable, Iterable, Optional, Sequence, Tuple, TypeVar
-
-from .state import DayWord
-from .store import Reader
-from .ward_folder import tables_of
-from .ward import Ward
+from typing import Callable, Generic, Hashable, Iterable, Optional, Tuple, TypeVar
 
 _Value = TypeVar("_Value")
-# A file that was changed within so many nanoseconds may be changed again without another time: shares count in steps of two seconds.
+# A file that was changed within so many nanoseconds may be changed again without another time:
+# shares count in steps of two seconds.
 _STEP = 3_000_000_000
 
 
@@ -24,20 +20,23 @@ class Kept(Generic[_Value]):
         self._value: Optional[_Value] = None
 
     def of(self, files: Iterable[Path], others: Hashable, make: Callable[[], _Value]) -> _Value:
-        """The value of these files and other things, which is made if it is not the kept one. What `make` raises is not kept."""
+        """The value of these files and other things, which is made if it is not the kept one. What
+        `make` raises is not kept."""
         with self._lock:
-            known, now = _looks(files), time.time_ns()
+            known = looks_of(files)
+            now = time.time_ns()
             key = (known, others)
             if self._value is not None and self._key == key:
                 return self._value
             self._value = None
             made = make()
             if all(changed < now - _STEP for _, changed, _, _ in known):
-                self._key, self._value = key, made
+                self._key = key
+                self._value = made
             return made
 
 
-def _looks(files: Iterable[Path]) -> Tuple[Tuple[str, int, int, int], ...]:
+def looks_of(files: Iterable[Path]) -> Tuple[Tuple[str, int, int, int], ...]:
     """What tells whether files were changed: their names, times, sizes and numbers on the disk."""
     looks = []
     for path in files:
@@ -46,15 +45,3 @@ def _looks(files: Iterable[Path]) -> Tuple[Tuple[str, int, int, int], ...]:
             (str(path), max(look.st_mtime_ns, look.st_ctime_ns), look.st_size, look.st_ino)
         )
     return tuple(looks)
-
-
-class KeptSheet:
-    """A reader of a ward's spreadsheet that reads it only if it has changed."""
-
-    def __init__(self, read: Reader) -> None:
-        self._read, self._kept = read, Kept[Ward]()
-
-    def __call__(self, path: Path, name: Optional[str], absences: Sequence[DayWord]) -> Ward:
-        return self._kept.of(
-            tables_of(path), (name, tuple(absences)), lambda: self._read(path, name, absences)
-        )

@@ -4,41 +4,84 @@ import datetime
 import re
 from dataclasses import replace
 from pathlib import Path
-from typing import Collection, Dict, Iterable, List, Mapping, Optional, Sequence, Set, Tuple
+from typing import (
+    Collection,
+    Dict,
+    Iterable,
+    List,
+    Mapping,
+    NamedTuple,
+    Optional,
+    Sequence,
+    Set,
+    Tuple,
+)
 
 from ..shown.calendars import file_names, issue_now, write_calendars
 from ..shown.page import page_text
 from ..shown.page_content import Content
 from ..shown.totals import Sums
 from ..week.dates import DAY, PlanDays, date_text
-from ..week.words import readable
+from ..week.faults import fault_line
 from ..week.own_files import is_own_file, own_bytes, without_link
 from ..week.records import WEEK_DAYS, NurseDay
+from ..week.words import readable
 from ..week.writing import write_own_text
-from .facts import promised_days, sums, unkept
-from .outcome import Pages
-from .sentences import beside_lines, days_away_lines, unkept_lines
+from .facts import promised_days, sums
+from .sentences import beside_lines, exceeded_lines, working_lines
 from .ward import WardPlan
 
-ROSTER, WALL, CALENDARS = "roster.html", "wall.html", "calendars"
+ROSTER = "roster.html"
+WALL = "wall.html"
+CALENDARS = "calendars"
+TABLES = "tables"
+WORKED = "worked.csv"
 # The name of the plan that a page shows, in its head.
 _PLAN = re.compile('<meta name="plan" content="([^"]*)"/>')
+_FROM = re.compile("from-[0-9]{4}-[0-9]{2}-[0-9]{2}")
 _WORKED = re.compile(r"worked(?:-([0-9]+(?:-[0-9]+-[0-9]+)?))?\.html")
+
+
+class Pages(NamedTuple):
+    """What was done to the pages of a folder."""
+
+    written: Tuple[Path, ...] = ()
+    # Those that were taken away, since they showed another plan.
+    gone: Tuple[Path, ...] = ()
+    # The fault that ended this, if there was one.
+    fault: Optional[OSError] = None
+
+    def lines(self) -> List[str]:
+        """The pages that were written and taken away."""
+        if self.fault:
+            return [f"the plan holds, but its pages are not written: {fault_line(self.fault)}"]
+        said = [f"written: {', '.join(map(str, self.written))}"] if self.written else []
+        if self.gone:
+            wall = (
+                ": take down what hangs on the wall"
+                if any(path.name == WALL for path in self.gone)
+                else ""
+            )
+            said.append(f"taken away: {', '.join(map(str, self.gone))}{wall}")
+        return said
 
 
 def write_pages(
     top: Path,
     plan: WardPlan,
     stamp: str,
-    periods: int,
     before: Mapping[str, Collection[int]],
     old: Optional[WardPlan] = None,
     earlier: Mapping[str, Sums] = {},
+    into: Optional[Path] = None,
 ) -> Pages:
-    """Writes the pages of a plan with this name, after this number of older periods. Each page of the folder then shows it, or weeks that
-    are over. `old` is the plan that was hung up before, `before` has the days of nurses' shifts in the calendars of this period, and
-    `earlier` what they had in periods before it."""
-    worked, contents = worked_name(plan.days, periods), {}
+    """Writes the pages of a plan with this name. Each page of the folder then shows it, or weeks
+    that are over. `old` is the plan that was hung up before, `before` has the days of nurses'
+    shifts in the calendars of this period, and `earlier` what they had in periods before it.
+    Those of a period after the one that runs go into a folder of their own."""
+    place = into or top
+    worked = worked_name(plan.days, plan.state.period)
+    contents = {}
     if plan.state.open_week:
         contents[worked] = replace(_worked_content(plan), name=ward_name(top))
     if plan.is_planned and plan.weeks:
@@ -52,17 +95,40 @@ def write_pages(
         contents.update(
             {WALL: replace(contents[ROSTER], only_table=True)} if plan.state.published else {}
         )
-    gone = taken_away(top, [name for name in (worked, ROSTER, WALL) if name not in contents])
+    gone = taken_away(place, [name for name in (worked, ROSTER, WALL) if name not in contents])
     gone += (
         []
         if plan.state.published
-        else calendars_taken_away(top, list(plan.scenario.nurses), before)
+        else calendars_taken_away(place, list(plan.scenario.nurses), before)
     )
-    # The pages that say which plan they show come last, so a run that was killed before its end is known by them.
-    calendars = _write_calendars(top, plan, before) if plan.state.published else []
+    # The pages that say which plan they show come last, so a run that was killed before its end is
+    # known by them.
+    calendars = _write_calendars(place, plan, before) if plan.state.published else []
     for name, content in contents.items():
-        write_own_text(top / name, page_text(content))
-    return Pages((*(top / name for name in contents), *calendars), tuple(gone))
+        write_own_text(place / name, page_text(content))
+    return Pages((*(place / name for name in contents), *calendars), tuple(gone))
+
+
+def folder_of(top: Path, days: PlanDays) -> Path:
+    """The folder of the pages of a period after the one that runs."""
+    folder = top / f"from-{days.monday}"
+    without_link(folder)
+    folder.mkdir(exist_ok=True)
+    return folder
+
+
+def folders_taken_away(top: Path, stay: Collection[Path]) -> List[Path]:
+    """Takes the pages of periods away that are not planned any more, or that run now."""
+    old = [path for path in top.iterdir() if _FROM.fullmatch(path.name) and path not in stay]
+    gone = [path for path in old if path.is_dir() and not path.is_symlink()]
+    for folder in gone:
+        without_link(folder / CALENDARS)
+        taken_away(folder, [ROSTER, WALL])
+        taken_away(folder / CALENDARS, sorted(own_calendars(folder)))
+        for inner in (folder / CALENDARS, folder):
+            if inner.is_dir() and not any(inner.iterdir()):
+                inner.rmdir()
+    return gone
 
 
 def other_plan_pages(top: Path, stamp: str) -> Tuple[str, ...]:
@@ -90,7 +156,8 @@ def taken_away(top: Path, names: Sequence[str]) -> List[Path]:
 def calendars_taken_away(
     top: Path, nurses: Sequence[str], before: Mapping[str, Collection[int]]
 ) -> List[Path]:
-    """Takes the calendars of this period away, if it has some. Returns their folder, if there were any."""
+    """Takes the calendars of this period away, if it has some. Returns their folder, if there were
+    any."""
     names = file_names(dict.fromkeys((*nurses, *before))).values() if before else ()
     without_link(top / CALENDARS)
     gone = taken_away(top / CALENDARS, list(names))
@@ -99,13 +166,37 @@ def calendars_taken_away(
     return [top / CALENDARS] if gone else []
 
 
-def worked_name(days: PlanDays, periods: int) -> str:
-    """The name of the page of the weeks that are over: it has the first Monday of the period, or the number of older periods."""
-    return f"worked-{periods if days.monday is None else days.monday}.html"
+def write_worked(top: Path, plan: WardPlan) -> Path:
+    """Writes the page of a period that is over."""
+    path = top / worked_name(plan.days, plan.state.period)
+    write_own_text(path, page_text(replace(_worked_content(plan), name=ward_name(top))))
+    return path
+
+
+def write_table(top: Path, text: str) -> Tuple[Path, ...]:
+    """Writes the table of what was worked; without rows there is none. Returns its path, if it has
+    another text now."""
+    path = top / TABLES / WORKED
+    without_link(path.parent)
+    if not text:
+        taken_away(path.parent, [WORKED])
+        return ()
+    path.parent.mkdir(exist_ok=True)
+    if is_own_file(path) and path.read_text(encoding="utf-8", errors="replace") == text:
+        return ()
+    write_own_text(path, text)
+    return (path,)
+
+
+def worked_name(days: PlanDays, period: int) -> str:
+    """The name of the page of the weeks that are over: it has the first Monday of the period, or
+    its number."""
+    return f"worked-{period if days.monday is None else days.monday}.html"
 
 
 def worked_pages(top: Path) -> Dict[str, str]:
-    """The names of the pages of weeks that are over, of all periods, the last one first, and their texts."""
+    """The names of the pages of weeks that are over, of all periods, the last one first, and their
+    texts."""
     names = sorted(
         (file.name for file in top.iterdir() if is_own_file(file)),
         key=lambda name: (len(name), name),
@@ -150,7 +241,8 @@ def _worked_content(plan: WardPlan) -> Content:
 def _write_calendars(
     top: Path, plan: WardPlan, before: Mapping[str, Collection[int]]
 ) -> List[Path]:
-    """Writes a calendar of the whole period for each nurse if the plan has dates: weeks that are over as they were worked."""
+    """Writes a calendar of the whole period for each nurse if the plan has dates: weeks that are
+    over as they were worked."""
     monday = plan.days.monday
     if monday is None or not plan.is_planned:
         return []
@@ -172,11 +264,12 @@ def ward_name(top: Path) -> str:
 
 
 def roster_content(top: Path, plan: WardPlan, old: Optional[WardPlan] = None) -> Content:
-    """What the pages of a folder show: the weeks that are not over, as of now, and what differs from the plan that was hung up before."""
+    """What the pages of a folder show: the weeks that are not over, as of now, and what differs
+    from the plan that was hung up before."""
     monday = None if plan.days.monday is None else plan.days.monday + plan.first * DAY
     before = old.view(plan.weeks) if old and old.is_planned else None
     holidays = {day - plan.first for day in plan.ward.holidays if day >= plan.first}
-    notes = (*unkept_lines(plan, unkept(plan)), *days_away_lines(plan), *beside_lines(plan))
+    notes = (*working_lines(plan), *exceeded_lines(plan), *beside_lines(plan))
     now = datetime.datetime.now()
     content = Content(
         plan.view(), before, monday, plan.ward.times, holidays=holidays, as_of=now, notes=notes

@@ -1,11 +1,12 @@
-"""A search for the weeks of a ward's plan that are not over. Days that are over stay as they are."""
+"""A search for the weeks of a ward's plan that are not over. Days that are over stay as they
+are."""
 
+import enum
 import tempfile
 from dataclasses import replace
 from pathlib import Path
 from typing import Dict, Iterator, List, Mapping, NamedTuple, Optional, Sequence, Tuple
 
-from ..judging.absences import is_broken_by
 from ..judging.days_away import DaysAway
 from ..judging.runs import ANY_CHOICE
 from ..programs.clock import Clock
@@ -13,6 +14,7 @@ from ..programs.interrupts import interrupts
 from ..programs.program import WeekFiles
 from ..programs.progress import Progress
 from ..rows.plan import Calls
+from ..search.bounds import PLAIN, Bound
 from ..search.period_search import PeriodSearch
 from ..search.planned_weeks import PeriodFiles, PlannedWeeks, history_name
 from ..search.why_none import Shortage, why_none
@@ -22,14 +24,56 @@ from ..week.files import history_text, solution_text, week_text
 from ..week.records import WEEK_DAYS, Cell, NurseDay, Solution, Week, WeekData, in_week
 from ..week.writing import write_text
 from .changes import CALL_POINTS, days_off_beside_absences, with_few_changes, with_old_skills
-from .outcome import Asked, Keep, KnownBound
-from .ward import WardPlan, limits_for_leavers
+from .limits import limits_for_leavers
+from .ward import WardPlan
 
 _FACTS = "facts.txt"
 
 
+class Keep(enum.Enum):
+    """How a search keeps the days of swaps: not at all, as far as that costs little, or all of
+    them. Days that were set are kept as if they were days of swaps, and also if these are not."""
+
+    NONE = enum.auto()
+    MOST = enum.auto()
+    ALL = enum.auto()
+
+
+class Asked(NamedTuple):
+    """What a search is asked for."""
+
+    # The first day that may change.
+    first: int
+    few_changes: bool
+    seconds: float
+    agreed: Keep = Keep.ALL
+    # Whether its plan is written if it exceeds a maximum that holds, and the plan before it does
+    # not.
+    do: bool = False
+    # Whether no plan is better than one that breaks an agreed day, or keeps less of absences and
+    # limits than the plan before it.
+    is_firm: bool = False
+
+
+class KnownBound(NamedTuple):
+    """What a search knows of all other plans."""
+
+    # The penalty of the best one.
+    penalty: int
+    # The least that a plan can cost.
+    bound: Bound
+    # The least that one can cost that also keeps the days beside days away, if that is known.
+    beside: Optional[int] = None
+
+    @property
+    def is_proved(self) -> bool:
+        """Whether `inrc2pb-bound` has proved it."""
+        return self.bound.by != PLAIN
+
+
 class Found(NamedTuple):
-    """The plan that a search has found, what it knows of all others, and whether the user stopped it."""
+    """The plan that a search has found, what it knows of all others, and whether the user stopped
+    it."""
 
     plan: WardPlan
     bound: Optional[KnownBound] = None
@@ -40,15 +84,16 @@ def search_plan(old: WardPlan, asked: Asked, progress: Progress) -> Found:
     """The best plan of the weeks that are not over. It begins with the old one, if there is one."""
     kept: List[Sequence[Cell]] = []
     with tempfile.TemporaryDirectory(prefix="inrc2pb-plan-") as name:
-        files, beside = _files(old, asked, Path(name)), old.days_away._replace(
-            fixed=asked.first - old.first
-        )
+        files = _files(old, asked, Path(name))
+        beside = old.days_away._replace(fixed=asked.first - old.first)
         weeks = _weeks(
             files,
             beside,
-            Calls(_older_rows(old), CALL_POINTS)
-            if asked.few_changes and old.is_planned
-            else Calls(),
+            (
+                Calls(_older_rows(old), CALL_POINTS)
+                if asked.few_changes and old.is_planned
+                else Calls()
+            ),
         )
         start = (
             [cell._replace(day=cell.day - old.first) for cell in old.cells]
@@ -79,7 +124,8 @@ def known_bound(search: PeriodSearch) -> Optional[KnownBound]:
 
 
 def _older_rows(old: WardPlan) -> Dict[str, bytes]:
-    """The rows of the nurses who have shifts in the plan. On a day on which one is away she need not be called."""
+    """The rows of the nurses who have shifts in the plan. On a day on which one is away she need
+    not be called."""
     numbers = {shift: number for number, shift in enumerate(old.scenario.shift_types, 1)}
     rows: Dict[str, bytes] = {}
     for nurse in dict.fromkeys(place.nurse for place in old.works):
@@ -93,7 +139,8 @@ def _older_rows(old: WardPlan) -> Dict[str, bytes]:
 
 
 def _weeks(files: PeriodFiles, beside: DaysAway, calls: Calls) -> PlannedWeeks:
-    """The weeks of these files. A fault names a file without its folder, which is there for the search only."""
+    """The weeks of these files. A fault names a file without its folder, which is there for the
+    search only."""
     try:
         return PlannedWeeks(files, beside, calls)
     except FileFault as fault:
@@ -107,7 +154,8 @@ def _weeks(files: PeriodFiles, beside: DaysAway, calls: Calls) -> PlannedWeeks:
 
 def _files(old: WardPlan, asked: Asked, folder: Path) -> PeriodFiles:
     """The files of a search, in this folder."""
-    history, given = folder / history_name(old.state.open_week), folder / _FACTS
+    history = folder / history_name(old.state.open_week)
+    given = folder / _FACTS
     agreed = kept_agreed(old, asked)
     claims = [*_later_claims(old, asked.first), *_past_claims(old, asked.first)]
     claims += [
@@ -123,9 +171,11 @@ def _files(old: WardPlan, asked: Asked, folder: Path) -> PeriodFiles:
     ]
     if asked.agreed is not Keep.MOST:
         held += [cell for cell in agreed.values() if cell]
-    weeks, fixes = [], {}
+    weeks = []
+    fixes = {}
     for number in old.weeks:
-        path, fixes[number] = folder / f"week-{number}.txt", folder / f"fix-{number}.txt"
+        path = folder / f"week-{number}.txt"
+        fixes[number] = folder / f"fix-{number}.txt"
         write_text(
             path, week_text(_week(old, number, asked, agreed if asked.agreed is Keep.MOST else {}))
         )
@@ -143,7 +193,8 @@ _Agreed = Mapping[NurseDay, Optional[Cell]]
 
 
 def _week(old: WardPlan, number: int, asked: Asked, agreed: _Agreed) -> WeekData:
-    """The file of a week, in which few shifts change, if that is asked for, and as few of these agreed ones as possible."""
+    """The file of a week, in which few shifts change, if that is asked for, and as few of these
+    agreed ones as possible."""
     if not old.is_planned:
         return old.data[number]
     new = set(old.scenario.nurses) - {place.nurse for place in old.works}
@@ -161,14 +212,11 @@ def _week(old: WardPlan, number: int, asked: Asked, agreed: _Agreed) -> WeekData
 
 
 def kept_agreed(old: WardPlan, asked: Asked) -> Dict[NurseDay, Optional[Cell]]:
-    """The days of swaps, and those that were set, that can be kept: nobody is away on them, who works has the skill, and the spreadsheet
-    holds no shift."""
+    """The days of swaps, and those that were set, that can be kept: nobody is away on them, who
+    works has the skill, and the spreadsheet holds no shift."""
 
     def can_be_kept(place: NurseDay, cell: Optional[Cell]) -> bool:
-        is_possible = cell is None or (
-            cell.skill in old.scenario.nurses[place.nurse].skills
-            and not is_broken_by(old.absences, cell)
-        )
+        is_possible = cell is None or old.may_have(cell)
         return place.day >= asked.first and place not in old.held and is_possible
 
     swaps = (
@@ -211,7 +259,8 @@ def _past_claims(old: WardPlan, first: int) -> Iterator[Claim]:
 
 
 def why_no_plan(plan: WardPlan) -> Optional[Tuple[int, Shortage]]:
-    """The first week that has no roster, and which minimum numbers to lower in it; None if each week alone has one."""
+    """The first week that has no roster, and which minimum numbers to lower in it; None if each
+    week alone has one."""
     with tempfile.TemporaryDirectory(prefix="inrc2pb-plan-") as name:
         for number in plan.weeks:
             past = plan.histories[min(number, len(plan.histories) - 1)]

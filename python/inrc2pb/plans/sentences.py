@@ -1,17 +1,16 @@
-"""The words of facts about a plan: its changes, what it does not keep, its pages. `render` says which module has those of outcomes."""
+"""The words of facts about a plan: its changes, what it does not keep, and what it has."""
 
 from typing import Dict, Iterable, Iterator, List, Mapping, Optional
 
 from ..judging.absences import in_words
 from ..judging.limits import limits_in_words, limits_way_out
+from ..sheets.week_rows import WeekRow
 from ..shown.changes import change_text, shifts_text
 from ..shown.why import in_words as charge_text
 from ..week.dates import PlanDays
-from ..week.faults import fault_line
 from ..week.records import WEEK_DAYS, Cell, NurseDay
 from ..week.words import OFF, joined, plural, quoted, readable, wish_text
 from .changes import ShiftChange, called
-from .fairness import evenness
 from .facts import (
     Beside,
     Broken,
@@ -23,10 +22,10 @@ from .facts import (
     lost_wishes,
     too_many_by_days_away,
     too_many_shifts,
+    unkept,
 )
-from .outcome import Pages
+from .fairness import evenness
 from .ward import WardPlan
-from .ward_sheet import WeekRow
 
 # ---- shifts, days and nurses
 
@@ -42,7 +41,8 @@ def change_lines(
     away: Mapping[NurseDay, str] = {},
     before: Mapping[NurseDay, str] = {},
 ) -> List[str]:
-    """A line for each change. `away` has words for the nurses' days on which they are away, and `before` those of the older plan."""
+    """A line for each change. `away` has words for the nurses' days on which they are away, and
+    `before` those of the older plan."""
     return [
         change_text(
             f"{readable(change.nurse)}, {days.text(change.day)}",
@@ -64,7 +64,8 @@ def call_lines(changes: Iterable[ShiftChange], away: Mapping[NurseDay, str] = {}
 
 
 def wish_lines(old: Optional[WardPlan], new: WardPlan) -> List[str]:
-    """The wishes that are not granted, or only those that an older plan grants and this one does not."""
+    """The wishes that are not granted, or only those that an older plan grants and this one does
+    not."""
     begin = "wish lost" if old else "wish not granted"
     return [
         f"{begin}: {readable(wish.nurse)}, {wish_text(wish.shift)} on {new.days.text(wish.day)}"
@@ -79,46 +80,63 @@ def unkept_lines(plan: WardPlan, unkept: Iterable[Unkept]) -> List[str]:
     """Who works while she is away, or above a limit that holds, and what would help."""
     said: List[str] = []
     for missed in unkept:
-        week, names, cells = (
-            plan.days.week_text(missed.week),
-            plan.day_names(missed.week),
-            plan.state.roster(missed.week),
-        )
+        week = plan.days.week_text(missed.week)
+        names = plan.day_names(missed.week)
+        cells = plan.state.roster(missed.week)
         if missed.working:
             skills = joined(dict.fromkeys(readable(cell.skill) for cell in missed.working))
             said.append(
-                f"{week}: no plan was found that keeps every absence: {in_words(missed.working, names)}"
+                f"{week}: no plan was found that keeps every absence:"
+                f" {in_words(missed.working, names)}"
             )
             said.append(
-                f"{week}: lower the minimum of {skills} in the sheet needs, or give someone the skill"
+                f"{week}: lower the minimum of {skills} in the sheet needs, or give someone the"
+                " skill"
             )
         else:
             said.append(
-                f"{week}: no plan was found that keeps every limit: {limits_in_words(missed.above, cells, names)}"
+                f"{week}: no plan was found that keeps every limit:"
+                f" {limits_in_words(missed.above, cells, names)}"
             )
             said.append(f"{week}: {limits_way_out(plan.week(missed.week), missed.above, cells)}")
     return said
 
 
+def working_lines(plan: WardPlan) -> List[str]:
+    """Who works on days on which she is away, or a shift type that she never works, since the
+    spreadsheet says so now."""
+    missing = unkept(plan) if plan.is_planned else []
+    weeks = ((missed.week, missed.working) for missed in missing if missed.working)
+    return [
+        f"{plan.days.week_text(week)}: {in_words(working, plan.day_names(week))}, and is away then,"
+        " or never works that: plan again"
+        for week, working in weeks
+    ]
+
+
 def exceeded_lines(plan: WardPlan) -> List[str]:
-    """The limits that hold which the plan that holds exceeds, and what would help; none if there is no plan."""
+    """The limits that hold which the plan that holds exceeds, and what would help; none if there is
+    no plan."""
     said = []
     for number, charge in exceeded_in_weeks(plan):
         words = limits_in_words([charge], plan.state.roster(number), plan.day_names(number))
         said.append(
-            f"{plan.days.week_text(number)} exceeds a limit that holds: {words}: plan again, or allow her more"
+            f"{plan.days.week_text(number)} exceeds a limit that holds: {words}: plan again, or"
+            " allow her more"
         )
     return said + [_shifts_line(plan, many) for many in too_many_shifts(plan)]
 
 
 def days_away_lines(plan: WardPlan) -> List[str]:
-    """The nurses whose shifts are too many only since days away count as shifts, and what would help."""
+    """The nurses whose shifts are too many only since days away count as shifts, and what would
+    help."""
     return [_shifts_line(plan, many) for many in too_many_by_days_away(plan)]
 
 
 def _shifts_line(plan: WardPlan, many: TooMany) -> str:
     """That a nurse has too many shifts, and what would help."""
-    above, counted = many.shifts - many.most, plan.ward.credit.get(many.nurse, 0)
+    above = many.shifts - many.most
+    counted = plan.ward.credit.get(many.nurse, 0)
     part = f", {counted} of them for days away," if counted else ""
     number = f"{plural(many.shifts, 'shift')}{part} of at most {many.most} in the period"
     cure = "no plan takes so many away, since the others were worked or are held: allow her more"
@@ -133,10 +151,16 @@ def beside_text(days: PlanDays, beside: Beside) -> str:
     before, day = beside.days
     nurse = readable(beside.nurse)
     if not beside.shift:
-        row = f"{plural(beside.number, 'day')} in a row with work or training, {days.span(beside.days)}"
+        row = (
+            f"{plural(beside.number, 'day')} in a row with work or training,"
+            f" {days.span(beside.days)}"
+        )
         return f"{nurse} has {row}, and her contract at most {beside.most} with work"
     night = days.text(before) if day else "the Sunday before"
-    return f"{nurse} works {readable(beside.shift)} on {night}, and has {beside.word} on {days.text(day)}"
+    return (
+        f"{nurse} works {readable(beside.shift)} on {night}, and has {beside.word} on"
+        f" {days.text(day)}"
+    )
 
 
 def beside_lines(plan: WardPlan) -> List[str]:
@@ -159,9 +183,8 @@ def due_lines(plan: WardPlan) -> List[str]:
     due = due_to_days_away(plan)
     said = []
     for part in due:
-        text, why = charge_text(part.charge, names=plan.day_names(part.week)), _DUE[
-            part.charge.rule
-        ].format(joined(part.words))
+        text = charge_text(part.charge, names=plan.day_names(part.week))
+        why = _DUE[part.charge.rule].format(joined(part.words))
         said.append(readable(f"{part.points} points: {text}: {why}"))
     return (
         [*said, f"{sum(part.points for part in due)} of the points are due to days away"]
@@ -181,7 +204,8 @@ def broken_text(plan: WardPlan, broken: Broken) -> str:
 
 
 def evenness_lines(plan: WardPlan) -> List[str]:
-    """How evenly nights and weekends are shared among the nurses of each contract who may work them."""
+    """How evenly nights and weekends are shared among the nurses of each contract who may work
+    them."""
     shared = evenness(plan)
     said = []
     for kind, spreads in (("nights", shared.nights), ("weekends", shared.weekends)):
@@ -200,22 +224,7 @@ def _to_most(fewest: int, most: int) -> str:
     return f" to {most}" if most > fewest else ""
 
 
-# ---- pages and periods
-
-
-def pages_lines(pages: Pages) -> List[str]:
-    """The pages that were written and taken away."""
-    if pages.fault:
-        return [f"the plan holds, but its pages are not written: {fault_line(pages.fault)}"]
-    said = [f"written: {', '.join(map(str, pages.written))}"] if pages.written else []
-    if pages.gone:
-        wall = (
-            ": take down what hangs on the wall"
-            if any(path.name == "wall.html" for path in pages.gone)
-            else ""
-        )
-        said.append(f"taken away: {', '.join(map(str, pages.gone))}{wall}")
-    return said
+# ---- periods
 
 
 def anew_lines(rows: Iterable[WeekRow], days: PlanDays) -> Iterator[str]:

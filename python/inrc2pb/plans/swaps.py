@@ -1,177 +1,25 @@
-"""Swaps of two nurses: on each day of a swap they have each other's shifts, so each place keeps its number of nurses; and single days of a
-nurse that are set.
+"""Swaps of two nurses: on each day of a swap they have each other's shifts, so each place keeps its
+number of nurses; and single days of a nurse that are set.
 
-A swap is judged by the weeks of its two nurses alone: what they are charged, what they have above limits that hold, and what is wrong
-beside their days away. A day that is set is judged so, and by the places that the nurse leaves and takes.
+A swap is judged by the weeks of its two nurses alone: what they are charged, what they have above
+limits that hold, and what is wrong beside their days away. A day that is set is judged so, and by
+the places that the nurse leaves and takes.
 """
 
-import enum
 from collections import Counter
-from dataclasses import replace
-from typing import Dict, Iterator, List, Mapping, NamedTuple, Optional, Sequence, Tuple
+from typing import Dict, Iterator, List, NamedTuple, Optional, Sequence, Tuple
 
-from ..judging import days_away
-from ..judging.absences import is_broken_by
-from ..judging.days_away import DaysAway
-from ..judging.limits import exceeded, excess
-from ..judging.next_history import next_nurse_history
-from ..judging.rules import Charge, costs
-from ..week.records import Cell, History, NurseDay, Place, Week, WeekData, exchanged, in_week
+from ..judging.obstacles import Obstacle
+from ..week.records import Cell, NurseDay, Place, exchanged
 from ..week.soft_rules import MISSING_NURSE
-from .facts import Beside, beside_of
-from .state import SetDay
+from .nurse_weeks import Fault, NurseCells, NurseWeeks, by_nurse
 from .ward import WardPlan
 
-# A nurse's shifts, by the days of the plan.
-NurseCells = Mapping[int, Cell]
 
-
-class Above(NamedTuple):
-    """What a nurse has in a week above limits that hold, and her shifts in it, with the days of the week."""
-
-    week: int
-    charges: Tuple[Charge, ...]
-    cells: Tuple[Cell, ...]
-
-
-class Kind(enum.Enum):
-    """Why a nurse cannot have some shifts: a limit that holds, a row or a night beside days away, a shift that is held, a day on which she
-    is away, a shift type that she never works, a skill that she does not have, a shift type that may not follow another one, a place
-    that has its minimum number of nurses only with her, and a day that was promised to her."""
-
-    LIMIT = enum.auto()
-    BESIDE = enum.auto()
-    HELD = enum.auto()
-    AWAY = enum.auto()
-    NEVER = enum.auto()
-    SKILL = enum.auto()
-    FOLLOWS = enum.auto()
-    MINIMUM = enum.auto()
-    PROMISED = enum.auto()
-
-
-class Fault(NamedTuple):
-    """Why a nurse cannot have some shifts: on a day, a word for why she is away, a shift type or a skill, and the shift type before it;
-    or what she has above limits, or what is wrong beside her days away; or the place that she leaves, and its minimum number; or what was
-    promised to her."""
-
-    kind: Kind
-    nurse: str
-    day: int = 0
-    what: str = ""
-    before: str = ""
-    above: Tuple[Above, ...] = ()
-    beside: Optional[Beside] = None
-    number: int = 0
-    promise: Optional[SetDay] = None
-
-
-class NurseWeeks:
-    """The weeks of a plan that are not over as each nurse has them, as if the ward had her alone and needed nobody."""
-
-    def __init__(self, plan: WardPlan) -> None:
-        self._plan, self._held = plan, by_nurse(plan, plan.held)
-        self._data: Dict[Tuple[str, int], WeekData] = {
-            (nurse, number): _of_nurse(plan.data[number], nurse)
-            for nurse in plan.scenario.nurses
-            for number in plan.weeks
-        }
-
-    def _weeks(self, nurse: str, cells: NurseCells) -> Iterator[Tuple[Week, Tuple[Cell, ...]]]:
-        """Each week, with her shifts."""
-        plan = self._plan
-        scenario = replace(plan.scenario, nurses={nurse: plan.scenario.nurses[nurse]})
-        past = plan.past.nurses[nurse]
-        for number in plan.weeks:
-            of_week = in_week(cells.values(), number)
-            yield Week(
-                scenario, History(number, scenario.name, {nurse: past}), self._data[nurse, number]
-            ), of_week
-            past = next_nurse_history(past, {cell.day: cell.shift for cell in of_week})
-
-    def cost(self, nurse: str, cells: NurseCells) -> int:
-        """What the nurse is charged for these shifts."""
-        return sum(
-            sum(costs(week, of_week).values()) for week, of_week in self._weeks(nurse, cells)
-        )
-
-    def faults(self, nurse: str, cells: NurseCells) -> List[Fault]:
-        """The hard rules, absences and held shifts that these shifts break, each by itself, in the order of days."""
-        last = self._plan.past.nurses[nurse].last_shift
-        shift_on = {
-            **({self._plan.first - 1: last} if last else {}),
-            **{day: cell.shift for day, cell in cells.items()},
-        }
-        faults = [
-            Fault(Kind.HELD, nurse, day)
-            for day, cell in self._held[nurse].items()
-            if cells.get(day) != cell
-        ]
-        for cell in cells.values():
-            faults += self._cell_faults(cell)
-            before = shift_on.get(cell.day - 1)
-            if before and self._plan.scenario.forbids(before, cell.shift):
-                faults.append(Fault(Kind.FOLLOWS, nurse, cell.day, cell.shift, before))
-        return sorted(faults, key=lambda fault: fault.day)
-
-    def _cell_faults(self, cell: Cell) -> Iterator[Fault]:
-        """Why the nurse cannot have this shift alone."""
-        why = self._plan.away.get(NurseDay(cell.nurse, cell.day))
-        if why:
-            yield Fault(Kind.AWAY, cell.nurse, cell.day, why)
-        elif is_broken_by(self._plan.absences, cell):
-            yield Fault(Kind.NEVER, cell.nurse, cell.day, cell.shift)
-        if cell.skill not in self._plan.scenario.nurses[cell.nurse].skills:
-            yield Fault(Kind.SKILL, cell.nurse, cell.day, cell.skill)
-
-    def above(self, nurse: str, cells: NurseCells) -> List[Above]:
-        """What these shifts of the nurse have above limits that hold."""
-        weeks = (
-            (week, exceeded(week, week.data.limits, of_week), of_week)
-            for week, of_week in self._weeks(nurse, cells)
-        )
-        return [
-            Above(week.history.week, tuple(charges), of_week)
-            for week, charges, of_week in weeks
-            if charges
-        ]
-
-    def excess(self, nurse: str, cells: NurseCells) -> int:
-        """How much that is in all."""
-        return sum(excess(week.charges) for week in self.above(nurse, cells))
-
-    def beside(self, nurse: str, cells: NurseCells) -> List[Beside]:
-        """What is wrong beside the nurse's days of training and leave with these shifts."""
-        return beside_of(self._plan, *self._around(nurse, cells))
-
-    def excess_beside(self, nurse: str, cells: NurseCells) -> int:
-        """By how many days rows with training are too long, with the number of nights before training or leave."""
-        return days_away.excess(self._plan.scenario, self._plan.past, *self._around(nurse, cells))
-
-    def _around(self, nurse: str, cells: NurseCells) -> Tuple[DaysAway, Dict[NurseDay, str]]:
-        """The nurse's days away, and her shift types on the days from the first one that is not over."""
-        return self._plan.days_away.of(nurse), {
-            NurseDay(nurse, day - self._plan.first): cell.shift for day, cell in cells.items()
-        }
-
-
-def _of_nurse(data: WeekData, nurse: str) -> WeekData:
-    """What a week's file has about one nurse."""
-    requests = tuple(request for request in data.requests if request.nurse == nurse)
-    return replace(
-        data,
-        requirements={},
-        requests=requests,
-        limits=frozenset(limit for limit in data.limits if limit.nurse == nurse),
-    )
-
-
-def by_nurse(plan: WardPlan, works: Mapping[NurseDay, Cell]) -> Dict[str, Dict[int, Cell]]:
-    """The shifts of each nurse, by day."""
-    rows: Dict[str, Dict[int, Cell]] = {nurse: {} for nurse in plan.scenario.nurses}
-    for (nurse, day), cell in works.items():
-        rows.setdefault(nurse, {})[day] = cell
-    return rows
+# A single exchange that costs more points is compared with what a search finds.
+MOST_POINTS = 30
+# Why a nurse cannot have a shift, whatever other shifts she and others have.
+_FIRM = (Obstacle.HELD, Obstacle.AWAY, Obstacle.NEVER, Obstacle.SKILL, Obstacle.PROMISED)
 
 
 class Swap(NamedTuple):
@@ -195,8 +43,8 @@ class Offer(NamedTuple):
 
 
 class Instead(NamedTuple):
-    """A nurse who could do what is set for another one, what that adds to the penalty, and the swap that does it; without a swap it is to
-    be set for her."""
+    """A nurse who could do what is set for another one, what that adds to the penalty, and the swap
+    that does it; without a swap it is to be set for her."""
 
     cost: int
     nurse: str
@@ -247,8 +95,8 @@ class Swaps:
         )
 
     def faults(self, swap: Swap) -> List[Fault]:
-        """Why the swap cannot be: promises, hard rules, limits, absences and held shifts that it breaks, and what it makes worse beside
-        days away."""
+        """Why the swap cannot be: promises, hard rules, limits, absences and held shifts that it
+        breaks, and what it makes worse beside days away."""
         after = list(self._after(swap))
         promises = [
             fault
@@ -263,16 +111,18 @@ class Swaps:
     def _broken_promises(
         self, nurse: str, cells: NurseCells, days: Sequence[int]
     ) -> Iterator[Fault]:
-        """The promised days of the nurse, of these days, on which such shifts are other ones than now, and not those that were promised."""
+        """The promised days of the nurse, of these days, on which such shifts are other ones than
+        now, and not those that were promised."""
         promised = self.plan.state.promised
         for promise in (
             promised[place] for place in (NurseDay(nurse, day) for day in days) if place in promised
         ):
             if cells.get(promise.day) not in (promise.cell, self.works(nurse, promise.day)):
-                yield Fault(Kind.PROMISED, nurse, promise.day, promise=promise)
+                yield Fault(Obstacle.PROMISED, nurse, promise.day, promise=promise)
 
     def offers(self, nurse: str, day: int) -> List[Offer]:
-        """All swaps by which another nurse takes this shift, the cheapest and nearest first: alone, or for one of her shifts."""
+        """All swaps by which another nurse takes this shift, the cheapest and nearest first: alone,
+        or for one of her shifts."""
         offers = [
             Offer(self.cost(swap), swap)
             for swap in self._possible(nurse, day)
@@ -290,19 +140,32 @@ class Swaps:
     # ---- one day of one nurse
 
     def day_faults(self, place: NurseDay, now: Optional[Cell]) -> List[Fault]:
-        """Why the nurse cannot have this shift on her day in place of her old one, or cannot be off."""
+        """Why the nurse cannot have this shift on her day in place of her old one, or cannot be
+        off."""
         nurse, day = place
         faults = list(self._faults(nurse, self._with_day(place, now), (day,)))
         for left, step in self._steps(place, now):
             minimum = self.plan.needs[left].minimum if left in self.plan.needs else 0
             if step < 0 and self._number[left] <= minimum:
                 faults.append(
-                    Fault(Kind.MINIMUM, nurse, day, f"{left.shift} {left.skill}", number=minimum)
+                    Fault(
+                        Obstacle.MINIMUM, nurse, day, f"{left.shift} {left.skill}", number=minimum
+                    )
                 )
         return faults
 
+    def may_vanish(self, fault: Fault, place: NurseDay) -> bool:
+        """Whether other shifts than that of this nurse's day may make room, so that this is wrong
+        no more."""
+        if fault.kind is not Obstacle.FOLLOWS:
+            return fault.kind not in _FIRM
+        beside = NurseDay(fault.nurse, fault.day - (fault.day == place.day))
+        fixed = {*self.plan.held, *self.plan.state.kept}
+        return beside.day >= self.plan.first and beside not in fixed
+
     def day_cost(self, place: NurseDay, now: Optional[Cell]) -> int:
-        """What that adds to the penalty: the charges of the nurse, and of the places that she leaves and takes."""
+        """What that adds to the penalty: the charges of the nurse, and of the places that she
+        leaves and takes."""
         changed = (
             self._alone.cost(place.nurse, self._with_day(place, now)) - self._costs[place.nurse]
         )
@@ -314,8 +177,9 @@ class Swaps:
         return changed
 
     def instead(self, place: NurseDay, now: Optional[Cell]) -> List[Instead]:
-        """Who could do it instead, the cheapest first: take the shift of a nurse who is to be off, or have the shift that she is to have,
-        by a swap with one who has it, or in addition to those who have it."""
+        """Who could do it instead, the cheapest first: take the shift of a nurse who is to be off,
+        or have the shift that she is to have, by a swap with one who has it, or in addition to
+        those who have it."""
         if now is None:
             offers = self.offers(*place) if self.works(*place) else []
             return [Instead(offer.cost, offer.swap.other, offer.swap) for offer in offers]
@@ -324,11 +188,13 @@ class Swaps:
 
     def _instead(self, place: NurseDay, now: Cell, other: str) -> Optional[Instead]:
         """How another nurse could have this shift instead, if she could."""
-        before, swap = self.works(other, place.day), Swap(place.nurse, other, (place.day,))
+        before = self.works(other, place.day)
+        swap = Swap(place.nurse, other, (place.day,))
         if before:
             same = before.shift == now.shift and not self.faults(swap)
             return Instead(self.cost(swap), other, swap) if same else None
-        her, hers = NurseDay(other, place.day), now._replace(nurse=other)
+        her = NurseDay(other, place.day)
+        hers = now._replace(nurse=other)
         is_refused = her in self.plan.state.promised or self.day_faults(her, hers)
         return None if is_refused else Instead(self.day_cost(her, hers), other)
 
@@ -338,7 +204,8 @@ class Swaps:
         return {**others, place.day: now} if now else others
 
     def _steps(self, place: NurseDay, now: Optional[Cell]) -> Iterator[Tuple[Place, int]]:
-        """The place that the nurse leaves, which has a nurse less then, and the one that she takes, which has one more."""
+        """The place that the nurse leaves, which has a nurse less then, and the one that she takes,
+        which has one more."""
         before = self.works(*place)
         if before and now and before[1:] == now[1:]:
             return
@@ -362,14 +229,14 @@ class Swaps:
         """Why the nurse cannot have these shifts, of which those on these days are new."""
         before = self._cells[nurse]
         if self._alone.excess(nurse, cells) > self._alone.excess(nurse, before):
-            yield Fault(Kind.LIMIT, nurse, above=tuple(self._alone.above(nurse, cells)))
+            yield Fault(Obstacle.LIMIT, nurse, above=tuple(self._alone.above(nurse, cells)))
         if self._alone.excess_beside(nurse, cells) > self._alone.excess_beside(nurse, before):
             known = self._alone.beside(nurse, before)
             yield from (
-                Fault(Kind.BESIDE, nurse, beside=beside)
+                Fault(Obstacle.BESIDE, nurse, beside=beside)
                 for beside in self._alone.beside(nurse, cells)
                 if beside not in known
             )
         for fault in self._alone.faults(nurse, cells):
-            if fault.day in days or (fault.kind is Kind.FOLLOWS and fault.day - 1 in days):
+            if fault.day in days or (fault.kind is Obstacle.FOLLOWS and fault.day - 1 in days):
                 yield fault

@@ -1,21 +1,22 @@
-"""What the spreadsheet of a ward says now, and a plan of it: the ward and what verbs have made of it."""
+"""A plan of a ward: what its spreadsheet says now, and what verbs have made of it."""
 
 import itertools
 from dataclasses import dataclass, replace
 from functools import cached_property
-from typing import Callable, Dict, FrozenSet, Iterable, List, Mapping, Optional, Sequence, Tuple
+from typing import Dict, FrozenSet, Iterable, List, Optional, Sequence, Tuple
 
 from ..judging.absences import absences_of
 from ..judging.days_away import DaysAway
-from ..judging.leave import ILL, Counted, credited
+from ..judging.leave import ILL, credited
 from ..judging.limits import with_given
 from ..judging.next_history import next_history
-from ..judging.odd_values import Reach
-from ..sheets.plan_sheets import NOT_EMPLOYED
+from ..judging.obstacles import obstacles
+from ..sheets.ward import Ward
 from ..sheets.ward_sheets import NIGHT
+from ..sheets.written_days import SHEET, DayWord
 from ..shown.roster_view import RosterView, WeekView
-from ..week.dates import PlanDays, Times
-from ..week.facts import SHIFTS, Charged, Claim
+from ..week.dates import PlanDays
+from ..week.facts import Claim
 from ..week.faults import Misuse
 from ..week.records import (
     WEEK_DAYS,
@@ -30,140 +31,27 @@ from ..week.records import (
     WeekData,
     in_week,
 )
-from ..week.words import OFF, plural, readable
-from .state import SHEET, DayWord, State
-from .ward_sheet import WeekRow
-from .words import PERIOD_IS_OVER, PeriodOver
+from ..week.words import OFF, readable
+from .fits import check_days, check_names
+from .limits import limits_for_leavers, limits_of
+from .state import State, renamed
 
 # The words for a day on which a nurse never works, and for a day off that the spreadsheet promises.
-ALWAYS_OFF, PROMISED = OFF, "promised"
+ALWAYS_OFF = OFF
+PROMISED = "promised"
 # Days off for these words are no days away.
 DAYS_OFF = (ALWAYS_OFF, PROMISED)
-# The reasons to be away that are work in a row, and those before which nobody should have a night shift.
-_TRAINING, _FREE = ("training",), ("training", "leave", "unpaid")
-
-
-@dataclass(frozen=True)
-class Ward:
-    """What the spreadsheet says now, with the days away that verbs have written."""
-
-    # The texts of the ward's files by their names, for `inrc2pb` and for people; what is odd in the spreadsheet; and what plans can reach.
-    texts: Mapping[str, str]
-    warnings: Sequence[str]
-    reach: Reach
-    days: PlanDays
-    # The contracts, nurses and shift types, with the parts of contracts that count, and the history without days away.
-    scenario: Scenario
-    past: History
-    # The absences and the limits that hold, as facts; the needs and wishes of each week; and the shifts that are fixed.
-    claims: Tuple[Claim, ...]
-    weeks: Tuple[WeekData, ...]
-    held: Tuple[Cell, ...]
-    # Why nurses are away, the days off that were promised, and as what days away count.
-    reasons: Mapping[NurseDay, str]
-    promised: FrozenSet[NurseDay]
-    counted: Counted
-    times: Mapping[str, Times]
-    # The days whose needs have numbers of their own, as bank holidays have, and the rows of the needs that have a week.
-    holidays: FrozenSet[int]
-    week_rows: Sequence[WeekRow]
-    # The ward of the same spreadsheet with other days away that verbs have written.
-    with_absences: Callable[[Sequence[DayWord]], "Ward"]
-
-    @property
-    def credit(self) -> Mapping[str, int]:
-        """The shifts as which the days away of each nurse count in the whole period."""
-        return self.counted.shifts
-
-    @cached_property
-    def leaving(self) -> Dict[str, int]:
-        """The day from which each nurse is gone to the end of the plan, if there is one."""
-        gone, total = {
-            place for place, word in self.reasons.items() if word in NOT_EMPLOYED
-        }, self.days.total
-        leaving: Dict[str, int] = {}
-        for nurse in dict.fromkeys(nurse for nurse, _ in sorted(gone)):
-            first = total
-            while NurseDay(nurse, first - 1) in gone:
-                first -= 1
-            if 0 < first < total:
-                leaving[nurse] = first
-        return leaving
-
-    def knows(self, cell: Cell) -> bool:
-        """Whether the ward has the names of a shift."""
-        scenario = self.scenario
-        return (
-            cell.nurse in scenario.nurses
-            and cell.shift in scenario.shift_types
-            and cell.skill in scenario.skills
-        )
-
-
-# ---- limits: what plans of a ward keep, as functions of the ward, of what verbs have made, and of a first day
-
-
-def limits_of(ward: Ward, state: State, first: Optional[int] = None) -> Tuple[Claim, ...]:
-    """The absences and limits that a plan of this state is judged by. A maximum of a nurse's shifts allows the shifts that she has before
-    the day `first`, or all of them, as far as they are too many only since days away count as shifts: no limit takes shifts of other days
-    from a nurse who is ill."""
-    return _with_more(
-        ward.claims,
-        ward,
-        state,
-        _planned(ward, state, ward.days.total if first is None else first),
-        ward.credit,
-    )
-
-
-def limits_for_leavers(
-    ward: Ward, state: State, limits: Sequence[Claim], first: int
-) -> Tuple[Claim, ...]:
-    """These limits for a search from the day `first` on: a nurse who leaves the ward keeps her shifts before it, also if the part of her
-    contract that counts has fewer."""
-    planned = _planned(ward, state, first)
-    return _with_more(limits, ward, state, planned, dict.fromkeys(ward.leaving, len(planned)))
-
-
-def _planned(ward: Ward, state: State, end: int) -> List[str]:
-    """The nurse of each shift before the day `end`, but for shifts on days on which she is away."""
-    return [
-        cell.nurse
-        for cell in state.cells
-        if cell.day < end and NurseDay(cell.nurse, cell.day) not in ward.reasons
-    ]
-
-
-def _with_more(
-    limits: Sequence[Claim],
-    ward: Ward,
-    state: State,
-    planned: Sequence[str],
-    more: Mapping[str, int],
-) -> Tuple[Claim, ...]:
-    """The limits, with maxima that allow nurses these planned shifts, but by no more than `more` says for each."""
-    before = credited(state.start, ward.counted).nurses
-
-    def allowing(claim: Claim) -> Claim:
-        fact = claim.fact
-        if not isinstance(fact, Charged) or fact.kind != SHIFTS or fact.nurse is None:
-            return claim
-        shifts = before[fact.nurse].assignments + planned.count(fact.nurse)
-        above = shifts - ward.scenario.contract_of(fact.nurse).assignments.maximum
-        return claim._replace(
-            fact=fact._replace(most=max(fact.most, min(above, more.get(fact.nurse, 0))))
-        )
-
-    return tuple(map(allowing, limits))
-
-
-# ---- a plan
+# The reasons to be away that are work in a row, and those before which nobody should have a night
+# shift.
+_TRAINING = ("training",)
+_FREE = ("training", "leave", "unpaid")
 
 
 @dataclass(frozen=True)
 class WardPlan:
-    """A ward, what verbs have made of it, and the limits that it is judged by. A plan that is made from it is judged by the same limits.
-    `unknown` are the planned shifts that were left out, since the spreadsheet does not have their names.
+    """A ward, what verbs have made of it, and the limits that it is judged by. A plan that is made
+    from it is judged by the same limits. `unknown` are the planned shifts that were left out, since
+    the spreadsheet does not have their names.
     """
 
     ward: Ward
@@ -198,7 +86,8 @@ class WardPlan:
 
     @cached_property
     def data(self) -> Tuple[WeekData, ...]:
-        """The needs, wishes, absences and limits of each week, with the days of the week, as judges of a week take them."""
+        """The needs, wishes, absences and limits of each week, with the days of the week, as judges
+        of a week take them."""
         return tuple(
             with_given(self.scenario, week, self.limits, number)
             for number, week in enumerate(self.ward.weeks)
@@ -224,10 +113,15 @@ class WardPlan:
             for absence in of_week
         )
 
+    def may_have(self, cell: Cell) -> bool:
+        """Whether a nurse may have this shift beside her absences, by her skills."""
+        return not obstacles(self.scenario, self.absences, cell)
+
     @cached_property
     def away(self) -> Dict[NurseDay, str]:
-        """The days of the weeks that are not over on which nurses are away, and why: a word of the sheet plan, `promised` for days off that
-        it promises, or `off` for days on which they are always off."""
+        """The days of the weeks that are not over on which nurses are away, and why: a word of the
+        sheet plan, `promised` for days off that it promises, or `off` for days on which they are
+        always off."""
         off = (
             NurseDay(absence.nurse, absence.day)
             for absence in self.absences
@@ -244,8 +138,9 @@ class WardPlan:
 
     @cached_property
     def days_away(self) -> DaysAway:
-        """The days away that concern the days beside them, in the weeks that are not over. Night shifts are known by their times, or else
-        by their names. Here and in `shifts` days count from the first one that is not over."""
+        """The days away that concern the days beside them, in the weeks that are not over. Night
+        shifts are known by their times, or else by their names. Here and in `shifts` days count
+        from the first one that is not over."""
         training, free = (
             frozenset(
                 NurseDay(place.nurse, place.day - self.first)
@@ -311,7 +206,8 @@ class WardPlan:
         return [self.days.text(WEEK_DAYS * number + day) for day in range(WEEK_DAYS)]
 
     def shifts_of(self, nurse: str) -> int:
-        """The shifts of a nurse in the period, with those as which days away count, but none of these days."""
+        """The shifts of a nurse in the period, with those as which days away count, but none of
+        these days."""
         return self.past.nurses[nurse].assignments + sum(
             place.nurse == nurse and place not in self.away for place in self.works
         )
@@ -325,7 +221,8 @@ class WardPlan:
         return replace(self, state=state)
 
     def with_absences(self, absences: Sequence[DayWord]) -> "WardPlan":
-        """The same with these days away that verbs have written, judged by the limits of a plan with them."""
+        """The same with these days away that verbs have written, judged by the limits of a plan
+        with them."""
         return continued(
             self.ward.with_absences(absences), replace(self.state, absences=tuple(absences))
         )
@@ -334,32 +231,25 @@ class WardPlan:
         """Some weeks, or those that are not over, to be shown."""
         weeks = []
         for number in self.weeks if shown is None else shown:
-            week, reasons, held = (
-                self.week(number),
-                self.reasons(number),
-                in_week(self.ward.held, number),
-            )
-            name = self.days.week_text(number)
+            week = self.week(number)
             weeks.append(
                 WeekView(
                     number,
                     self.state.roster(number),
                     week.data,
                     week,
-                    held,
-                    reasons=reasons,
-                    named=name,
+                    in_week(self.ward.held, number),
+                    reasons=self.reasons(number),
+                    named=self.days.week_text(number),
                 )
             )
-        names = (
-            list(self.scenario.nurses),
-            list(self.scenario.shift_types),
-            list(self.scenario.skills),
-        )
-        return RosterView(self.scenario.name, *names, weeks, credit=dict(self.ward.credit))
+        ward = self.scenario
+        names = (list(ward.nurses), list(ward.shift_types), list(ward.skills))
+        return RosterView(ward.name, *names, weeks, credit=dict(self.ward.credit))
 
     def reasons(self, number: int) -> Dict[Tuple[str, int], str]:
-        """Why nurses are away on the days of a week, also of one that is over, with the days of the week."""
+        """Why nurses are away on the days of a week, also of one that is over, with the days of the
+        week."""
         days = [
             (absence.nurse, absence.day)
             for absence in absences_of(self.data[number])
@@ -383,7 +273,8 @@ def plan_of(ward: Ward, state: State, unknown: Tuple[Cell, ...] = ()) -> WardPla
 
 
 def for_leavers(plan: WardPlan, first: int) -> WardPlan:
-    """The plan, judged as by a search from this day on: nurses who leave keep their shifts before it."""
+    """The plan, judged as by a search from this day on: nurses who leave keep their shifts before
+    it."""
     return replace(plan, limits=limits_for_leavers(plan.ward, plan.state, plan.limits, first))
 
 
@@ -393,27 +284,33 @@ def first_plan(ward: Ward, past: Optional[History] = None) -> WardPlan:
 
 
 def _start(ward: Ward, past: Optional[History]) -> History:
-    """The history before the first week. Nurses whom an older one does not have begin as the sheet says."""
+    """The history before the first week. Nurses whom an older one does not have begin as the sheet
+    says."""
     known = past.nurses if past else {}
     return replace(
         ward.past, nurses={nurse: known.get(nurse, row) for nurse, row in ward.past.nurses.items()}
     )
 
 
-def continued(ward: Ward, state: State) -> WardPlan:
-    """The plan of a folder, with what its spreadsheet says now. Raises Misuse if that is another period, or lacks a name of a week that is
-    over; planned shifts whose names it lacks are left out."""
-    absences = _with_lost_shifts(ward, state)
+def continued(ward: Ward, state: State, past: Optional[History] = None) -> WardPlan:
+    """The plan of a folder, with what its spreadsheet says now; it begins with this history, if the
+    period before it is known. Raises Misuse if the spreadsheet has another period, or lacks a name
+    of a week that is over; planned shifts whose names it lacks are left out."""
+    named = state.renamed(ward.name_now)
+    absences = _with_lost_shifts(ward, named)
     if absences != state.absences:
-        return continued(ward.with_absences(absences), replace(state, absences=absences))
-    _check_days(ward.days, state.days)
-    _check_names(ward, [cell for cell in state.cells if cell.day < state.first])
-    unknown = tuple(cell for cell in state.cells if not ward.knows(cell))
-    cells = tuple(cell for cell in state.cells if cell not in unknown)
-    now = replace(state, days=ward.days, start=_start(ward, state.start), cells=cells)
+        return continued(ward.with_absences(absences), replace(named, absences=absences), past)
+    check_days(ward.days, named.days)
+    check_names(ward, [cell for cell in named.cells if cell.day < named.first])
+    known = renamed(past, ward.name_now).nurses if past else {}
+    start = _start(ward, replace(named.start, nurses={**named.start.nurses, **known}))
+    _check_last_shifts(ward, start)
+    unknown = tuple(cell for cell in named.cells if not ward.knows(cell))
+    cells = tuple(cell for cell in named.cells if cell not in unknown)
+    now = replace(named, days=ward.days, start=start, cells=cells)
     now = now.keeping(
         lambda place: place.nurse in ward.scenario.nurses
-        and state.first <= place.day < ward.days.total
+        and named.first <= place.day < ward.days.total
     )
     now = replace(
         now,
@@ -425,11 +322,10 @@ def continued(ward: Ward, state: State) -> WardPlan:
 
 
 def _with_lost_shifts(ward: Ward, state: State) -> Tuple[DayWord, ...]:
-    """The words of verbs, and for an illness that only the spreadsheet has the shifts that it takes from a plan on the wall, if it takes
-    some."""
-    known, words = {(absence.nurse, absence.day) for absence in state.absences}, list(
-        state.absences
-    )
+    """The words of verbs, and for an illness that only the spreadsheet has the shifts that it takes
+    from a plan on the wall, if it takes some."""
+    known = {(absence.nurse, absence.day) for absence in state.absences}
+    words = list(state.absences)
     works = {(cell.nurse, cell.day) for cell in state.cells}
     ill = sorted(
         place for place, word in ward.reasons.items() if word == ILL and place not in known
@@ -443,31 +339,11 @@ def _with_lost_shifts(ward: Ward, state: State) -> Tuple[DayWord, ...]:
     return tuple(words)
 
 
-def _check_days(now: PlanDays, before: PlanDays) -> None:
-    """The spreadsheet has the days of the plan. At the beginning of a period its number of weeks is free."""
-    if now.monday == before.monday and before.weeks in (0, now.weeks):
-        return
-    begin = "" if before.monday is None else f" from {before.monday} on"
-    if not before.weeks:
-        raise PeriodOver(
-            f"a {PERIOD_IS_OVER}: write the days of the next one{begin} into the sheet plan, with its wishes and absences"
-        )
-    raise Misuse(
-        f"the plan has {plural(before.weeks, 'week')}{begin}, and the sheet plan has other days: write these, or plan in another folder"
-    )
-
-
-def _check_names(ward: Ward, worked: Sequence[Cell]) -> None:
-    """Who worked in a week that is over is in the ward."""
-    for cell in worked:
-        week = cell.day // WEEK_DAYS
-        if cell.nurse not in ward.scenario.nurses:
-            cure = "write it again, with away in the plan from her last day on"
+def _check_last_shifts(ward: Ward, start: History) -> None:
+    """The ward has the shift types with which its nurses begin."""
+    for nurse, past in start.nurses.items():
+        if past.last_shift and past.last_shift not in ward.scenario.shift_types:
             raise Misuse(
-                f"{readable(cell.nurse)} worked in {ward.days.week_text(week)}, and has no row in the sheet nurses: {cure}"
-            )
-        if not ward.knows(cell):
-            row = cell._replace(day=cell.day % WEEK_DAYS).row()
-            raise Misuse(
-                f"'{row}' was worked in {ward.days.week_text(week)}, and the spreadsheet has no such shift type or skill: keep its old name"
+                f"{readable(nurse)} had {readable(past.last_shift)} on the Sunday before the plan,"
+                " and the spreadsheet has no such shift type: keep its old name"
             )

@@ -1,5 +1,5 @@
-"""The folder of a ward: its spreadsheet, and a folder for each plan, which is written as a whole and never changed by a verb. One run
-writes to it at a time."""
+"""The folder of a ward: its spreadsheet, and a folder for each plan, which is written as a whole
+and never changed by a verb. One run writes to it at a time."""
 
 import contextlib
 import datetime
@@ -9,17 +9,28 @@ import re
 import shutil
 import tempfile
 import threading
+import zlib
 from pathlib import Path
-from typing import Callable, Dict, Iterator, List, Optional, TextIO, Tuple
+from typing import Callable, Dict, Iterator, List, Optional, Sequence, TextIO, Tuple
 
 from ..programs.interrupts import interrupts
+from ..sheets.plan_days import read_days
+from ..sheets.sheet_files import Book, read_book
+from ..sheets.ward import Ward, ward_name, ward_of
+from ..sheets.written_days import DayWord
+from ..week.dates import PlanDays
 from ..week.faults import Misuse
 from ..week.own_files import check_inside, check_no_link
 from ..week.words import quoted
-from ..week.writing import write_text
+from ..week.writing import flush, write_text
+from .kept import Kept, looks_of
+from .plan_files import check_readable
 
-PLANS, UNDONE, LOCK = "plans", "undone", "lock"
-_SPREADSHEETS, _CSV = (".ods", ".xlsx"), (".csv", ".tsv")
+PLANS = "plans"
+UNDONE = "undone"
+LOCK = "lock"
+_SPREADSHEETS = (".ods", ".xlsx")
+_CSV = (".csv", ".tsv")
 _NAME = re.compile("([0-9]{4,})-.+")
 # Seconds between two looks whether the run that works in the folder has ended.
 _PAUSE = 0.2
@@ -44,12 +55,15 @@ def tables_of(spreadsheet: Path) -> List[Path]:
 
 
 class WardFolder:
-    """A folder with a spreadsheet. The plans are the folders `plans/NNNN-TIME-VERB`; the last of them holds."""
+    """A folder with a spreadsheet. The plans are the folders `plans/NNNN-TIME-VERB`; the last of
+    them holds."""
 
     def __init__(self, top: Path) -> None:
         if not top.is_dir():
             raise Misuse(f"{top} is no folder: give the folder that has the ward's spreadsheet")
-        self.top, self.plans = top, top / PLANS
+        self.top = top
+        self.plans = top / PLANS
+        self._book = Kept[Book]()
 
     def spreadsheet(self) -> Path:
         """The only spreadsheet of the folder; the folder itself if its sheets are .csv files."""
@@ -61,7 +75,8 @@ class WardFolder:
         spreadsheets = [path for path in files if path.suffix.lower() in _SPREADSHEETS]
         if len(spreadsheets) > 1:
             raise Misuse(
-                f"{self.top} has several spreadsheets, {quoted(path.name for path in spreadsheets)}: leave one of them in it"
+                f"{self.top} has several spreadsheets,"
+                f" {quoted(path.name for path in spreadsheets)}: leave one of them in it"
             )
         tables = spreadsheets or [path for path in files if path.suffix.lower() in _CSV]
         for path in tables:
@@ -69,8 +84,28 @@ class WardFolder:
         if tables:
             return spreadsheets[0] if spreadsheets else self.top
         raise Misuse(
-            f"{self.top} has no spreadsheet: put the ward's .ods or .xlsx file into it, or give a new folder and `new`"
+            f"{self.top} has no spreadsheet: put the ward's .ods or .xlsx file into it, or give a"
+            " new folder and `new`"
         )
+
+    def ward(
+        self,
+        name: Optional[str] = None,
+        absences: Sequence[DayWord] = (),
+        period: Optional[PlanDays] = None,
+    ) -> Ward:
+        """The ward of a period of the spreadsheet, or of all its days; it has this name, if it has
+        one, and these days away in its plan."""
+        return ward_of(self.book(), name or ward_name(self.spreadsheet()), absences, period=period)
+
+    def days(self) -> PlanDays:
+        """All days of the sheet plan."""
+        return read_days(self.book()).sheet
+
+    def book(self) -> Book:
+        """The spreadsheet, which is read again only if it has changed."""
+        spreadsheet = self.spreadsheet()
+        return self._book.of(tables_of(spreadsheet), None, lambda: read_book(spreadsheet))
 
     def all_plans(self) -> List[Path]:
         """The folders of all plans, in the order in which they were made."""
@@ -82,12 +117,29 @@ class WardFolder:
 
     @property
     def stamp(self) -> str:
-        """The name of the plan that holds, or `none`: another one since a page was shown has another stamp."""
+        """The name of the plan that holds, or `none`: another one since a page was shown has
+        another stamp."""
         last = self.last()
         return last.name if last else "none"
 
+    def files(self) -> List[Path]:
+        """The files of the spreadsheet, and of the plan that holds."""
+        last = self.last()
+        return [*tables_of(self.spreadsheet()), *(sorted(last.iterdir()) if last else ())]
+
+    @property
+    def seen(self) -> str:
+        """The stamp, a blank, and what is another text if a file of the spreadsheet or of the plan
+        was changed since."""
+        try:
+            looks = repr(looks_of(self.files()))
+        except (Misuse, OSError) as fault:
+            looks = str(fault)
+        return f"{self.stamp} {zlib.crc32(looks.encode(errors='surrogateescape')):08x}"
+
     def add(self, verb: str, texts: Dict[str, str], now: datetime.datetime) -> Path:
-        """Writes a plan with these files: its folder is there as a whole or not at all."""
+        """Writes a plan with these files: its folder is there as a whole or not at all. Raises
+        Misuse if no later verb could read it."""
         number = 1 + max(
             (_place(path)[0] for path in [*self.all_plans(), *self.undone()]), default=0
         )
@@ -96,8 +148,12 @@ class WardFolder:
         try:
             for name, text in texts.items():
                 write_text(new / name, text)
+            check_readable(new)
             os.chmod(new, 0o777 & ~_umask_of(self.plans))
+            for path in (*sorted(new.iterdir()), new):
+                flush(path)
             os.rename(new, target)
+            flush(self.plans)
         except BaseException as fault:
             shutil.rmtree(new, ignore_errors=True)
             if isinstance(fault, OSError):
@@ -119,27 +175,34 @@ class WardFolder:
     def undo(self) -> Path:
         """Takes the last plan away, to the folder `undone`. Returns its new path."""
         last = self.check_undo()
-        check_no_link(self.plans / UNDONE)
-        (self.plans / UNDONE).mkdir(exist_ok=True)
-        return last.rename(self.plans / UNDONE / last.name)
+        undone = self.plans / UNDONE
+        check_no_link(undone)
+        undone.mkdir(exist_ok=True)
+        path = last.rename(undone / last.name)
+        for folder in (undone, self.plans):
+            flush(folder)
+        return path
 
     @contextlib.contextmanager
     def locked(self, say: Callable[[str], None], end: str = "") -> Iterator[None]:
-        """Within the block no other run writes to the folder. If one does now, `say` is called with that, and with how a user ends the
-        wait; who does so gets a KeyboardInterrupt."""
+        """Within the block no other run writes to the folder. If one does now, `say` is called with
+        that, and with how a user ends the wait; who does so gets a KeyboardInterrupt."""
         with self._lock_file() as file:
             self._take(file, say, end)
             yield
 
     def _lock_file(self) -> TextIO:
-        """The file that is locked, open. A fault names the folder. Raises Misuse if it is a link, or if this is no ward's folder."""
+        """The file that is locked, open. A fault names the folder. Raises Misuse if it is a link,
+        or if this is no ward's folder."""
         check_no_link(self.plans)
         check_no_link(self.plans / LOCK)
         if not self.plans.is_dir():
             # The folder of a network share that is gone is empty.
             self.spreadsheet()
         try:
-            self.plans.mkdir(exist_ok=True)
+            if not self.plans.is_dir():
+                self.plans.mkdir(exist_ok=True)
+                flush(self.top)
             return open(
                 os.open(self.plans / LOCK, os.O_RDWR | os.O_CREAT | os.O_NOFOLLOW, 0o666),
                 "r+",
@@ -153,7 +216,8 @@ class WardFolder:
         if _is_taken(file):
             return
         say(
-            f"another run works in {self.top}: this one waits for its end, and its time begins then{end}"
+            f"another run works in {self.top}: this one waits for its end, and its time begins"
+            f" then{end}"
         )
         stopped = threading.Event()
         with interrupts() as signals, signals.calling(stopped.set):
@@ -161,6 +225,7 @@ class WardFolder:
                 if _is_taken(file) and not signals.caught:
                     say("the other run has ended")
                     return
+            signals.check()
         raise KeyboardInterrupt
 
 

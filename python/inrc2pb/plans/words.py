@@ -1,16 +1,19 @@
 """What users write after a verb, and how days are said: one grammar of nurses, days and dates."""
 
+import itertools
 import unicodedata
 from typing import Collection, List, NoReturn, Optional, Sequence, Tuple
 
-from ..sheets.sheet_rows import tidy
+from ..sheets.sheet_cells import tidy
 from ..week.dates import MONTHS, PlanDays, is_day
-from ..week.faults import Misuse
-from ..week.slots import did_you_mean
+from ..week.faults import Misuse, printable
+from ..week.slots import did_you_mean, is_utf8
 from ..week.words import quoted, readable
 
 # Letters with a stroke or without a dot, which Unicode does not take apart.
 _BARE = str.maketrans("łıøđħŧ", "liodht")
+# The most signs of a reason: the roster shows it, and the file of a plan keeps all of them.
+_MOST_REASON = 200
 # The words of lines on the end of a period.
 PERIOD_IS_OVER = "period is over"
 
@@ -20,14 +23,17 @@ class PeriodOver(Misuse):
 
 
 class Wording:
-    """The words after a verb, which are taken one after another; a comma after a word counts for nothing. `usage` is an example of the
-    whole line."""
+    """The words after a verb, which are taken one after another; a comma after a word counts for
+    nothing. `usage` is an example of the whole line."""
 
     def __init__(
         self, words: Sequence[str], nurses: Collection[str], days: PlanDays, first: int, usage: str
     ) -> None:
         self._left = [text for text in (tidy(word).rstrip(",;") for word in words) if text]
-        self._nurses, self._days, self._first, self._usage = nurses, days, first, usage
+        self._nurses = nurses
+        self._days = days
+        self._first = first
+        self._usage = usage
 
     @property
     def is_over(self) -> bool:
@@ -35,18 +41,21 @@ class Wording:
         return not self._left
 
     def nurse(self) -> str:
-        """A nurse. Her name may be several words, up to the next day, or the beginning of a name that only she has."""
+        """A nurse: the longest name among the words up to the next day, since one nurse may be Anna
+        and another one Anna Maria. All these words may be the beginning of a name that only she
+        has."""
         if self.is_over:
             self._misuse("a nurse is missing")
-        text = self._left.pop(0)
-        while (
-            self._left and not is_day(self._left[0]) and not _named(text, self._nurses, whole=True)
-        ):
-            text += f" {self._left.pop(0)}"
+        more = itertools.takewhile(lambda word: not is_day(word), self._left[1:])
+        texts = list(itertools.accumulate([self._left[0], *more], "{} {}".format))
+        whole = (text for text in reversed(texts) if _named(text, self._nurses, whole=True))
+        text = texts[-1] if _named(texts[-1], self._nurses) else next(whole, texts[-1])
+        del self._left[: texts.index(text) + 1]
         return self._known("nurse", text, self._nurses)
 
     def day(self, near: Optional[int] = None) -> int:
-        """A day; a day of the week is the first one from the day `near` on, or from the first day that is not over."""
+        """A day; a day of the week is the first one from the day `near` on, or from the first day
+        that is not over."""
         if self.is_over:
             self._misuse("a day is missing")
         text = self._left.pop(0)
@@ -65,7 +74,10 @@ class Wording:
         """The same. Raises Misuse if the day is in a week that is over."""
         day = self.day(near)
         if day < self._first:
-            cure = f"the plan goes on from {self._days.text(self._first)}; undo takes the end of that week back"
+            cure = (
+                f"the plan goes on from {self._days.text(self._first)}; undo takes the end of that"
+                " week back"
+            )
             raise Misuse(f"{self._days.text(day)} is in a week that is over: {cure}")
         return day
 
@@ -76,18 +88,29 @@ class Wording:
         return self._left.pop(0).casefold()
 
     def shift(self, names: Collection[str], skills: Collection[str]) -> Tuple[str, str]:
-        """One of these shift types, and the skill that follows it, as in `Late/Nurse`, or nothing."""
+        """One of these shift types, and the skill that follows it, as in `Late/Nurse`, or
+        nothing."""
         if self.is_over:
             self._misuse("a shift type is missing")
         shift, _, skill = self._left.pop(0).partition("/")
-        return (
-            self._known("shift type", shift, names),
-            self._known("skill of hers", skill, skills) if skill else "",
+        return self._known("shift type", shift, names), (
+            self._known("skill of hers", skill, skills) if skill else ""
         )
 
-    def rest(self) -> str:
-        """All words that are left."""
-        text, self._left = " ".join(self._left), []
+    def reason(self) -> str:
+        """All words that are left. Raises Misuse if no later verb could read them, or if they are
+        too long."""
+        text = " ".join(self._left)
+        self._left = []
+        if not is_utf8(text):
+            raise Misuse(
+                f"'{printable(text)[:40]}' has a byte that is no UTF-8: write the reason without"
+                " accents, or in a terminal with UTF-8"
+            )
+        if len(text) > _MOST_REASON:
+            raise Misuse(
+                f"'{text[:20]} ..' has {len(text)} signs: write a reason of at most {_MOST_REASON}"
+            )
         return text
 
     def end(self) -> None:
@@ -96,14 +119,16 @@ class Wording:
             self._misuse(f"'{self._left[0]}' is a word too many")
 
     def _known(self, kind: str, text: str, names: Collection[str]) -> str:
-        same, begun = _named(text, names, whole=True), _named(text, names)
+        same = _named(text, names, whole=True)
+        begun = _named(text, names)
         if len(same or begun) == 1:
             return (same or begun)[0]
         if begun:
             raise Misuse(f"'{text}' may be {quoted(map(readable, begun))}: write the whole name")
         otherwise = f"write one of {quoted(map(readable, names))}"
         raise Misuse(
-            f"'{text}' is no {kind}: {did_you_mean(text.replace(' ', '_'), names, otherwise, readable)}"
+            f"'{text}' is no {kind}:"
+            f" {did_you_mean(text.replace(' ', '_'), names, otherwise, readable)}"
         )
 
     def _misuse(self, what: str) -> NoReturn:
@@ -111,8 +136,8 @@ class Wording:
 
 
 def _named(text: str, names: Collection[str], whole: bool = False) -> List[str]:
-    """The names that begin with this text, or that equal it if it is a whole name; case does not matter, nor do accents, unless names
-    differ in nothing else."""
+    """The names that begin with this text, or that equal it if it is a whole name; case does not
+    matter, nor do accents, unless names differ in nothing else."""
     for folded in (str.casefold, _without_accents):
         wanted = folded(text.replace(" ", "_"))
         alike = [name for name in names if folded(name)[: None if whole else len(wanted)] == wanted]
@@ -122,6 +147,7 @@ def _named(text: str, names: Collection[str], whole: bool = False) -> List[str]:
 
 
 def _without_accents(text: str) -> str:
-    """The text in small letters without accents, as a keyboard without them has it: `Łukasz` is `lukasz`."""
+    """The text in small letters without accents, as a keyboard without them has it: `Łukasz` is
+    `lukasz`."""
     letters = unicodedata.normalize("NFKD", text.casefold().translate(_BARE))
     return "".join(letter for letter in letters if not unicodedata.combining(letter))

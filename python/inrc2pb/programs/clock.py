@@ -1,8 +1,18 @@
-"""The time of a search: it is looked at everywhere, and it ends when the user stops the search."""
+"""The time of a search: it is looked at everywhere, and it ends when the user stops the search; and
+the date of today."""
 
+import datetime
 import threading
 import time
-from typing import Optional
+from typing import Callable, Optional
+
+# Seconds between two looks at what someone waits for.
+PAUSE = 0.2
+
+
+def today() -> datetime.date:
+    """The date of this machine."""
+    return datetime.date.today()
 
 
 class TimeIsOver(Exception):
@@ -10,12 +20,14 @@ class TimeIsOver(Exception):
 
 
 class Clock:
-    """Some seconds from now on. `part` gives a part of them, which ends at the latest with the whole."""
+    """Some seconds from now on. `part` gives a part of them, which ends at the latest with the
+    whole."""
 
     def __init__(self, seconds: float, whole: "Optional[Clock]" = None) -> None:
         self.began = time.monotonic()
         self.limit = self.began + seconds
-        self._stopped, self._whole = threading.Event(), whole
+        self._stopped = threading.Event()
+        self._whole = whole
 
     def part(self, seconds: float) -> "Clock":
         """A clock for at most these seconds."""
@@ -33,6 +45,12 @@ class Clock:
     def left(self) -> float:
         """The seconds that are left, 0 if it was stopped."""
         return 0.0 if self.stopped else max(0.0, self.limit - time.monotonic())
+
+    def wait_until(self, event: Callable[[], bool]) -> None:
+        """Waits until it is so. Raises TimeIsOver if no time is left before."""
+        while not event():
+            self.check()
+            time.sleep(PAUSE)
 
     def check(self) -> None:
         """Raises TimeIsOver if no time is left."""

@@ -1,4 +1,5 @@
-"""Copies of the files that a search reads: whoever goes on with such a file during the search changes nothing of it."""
+"""Copies of the files that a search reads: whoever goes on with such a file during the search
+changes nothing of it."""
 
 import contextlib
 import shutil
@@ -14,7 +15,8 @@ Given = TypeVar("Given", Path, Optional[Path])
 
 
 class Inputs:
-    """Copies of files in a folder of their own, which is removed with this. Messages about a copy get the path of its file."""
+    """Copies of files in a folder of their own, which is removed with this. Messages about a copy
+    get the path of its file."""
 
     def __init__(self) -> None:
         self._folder = Path(tempfile.mkdtemp(prefix="inrc2pb-inputs-"))
@@ -22,8 +24,9 @@ class Inputs:
         weakref.finalize(self, shutil.rmtree, str(self._folder), ignore_errors=True)
 
     def copy(self, path: Given) -> Given:
-        """The copy of a file, with what it has when this is first called; none of none. A file that no reader takes since it is too long
-        is cut after the first byte that is too many, so that they still refuse it."""
+        """The copy of a file, with what it has when this is first called; none of none. A file that
+        no reader takes since it is too long is cut after the first byte that is too many, so that
+        they still refuse it."""
         if path is None:
             return path
         if path not in self._copies:
@@ -67,7 +70,8 @@ class Inputs:
         ]
 
     def _change(self, path: Path) -> str:
-        """What happened to a file, if anything. What is no file any more is not opened: a pipe would keep the search waiting."""
+        """What happened to a file, if anything. What is no file any more is not opened: a pipe
+        would keep the search waiting."""
         try:
             copied = self._copies[path].read_bytes()
         except OSError:

@@ -1,4 +1,5 @@
-"""Locks of files that a search writes: a second search that would write the same file says so, or waits."""
+"""Locks of files that a search writes: a second search that would write the same file says so, or
+waits."""
 
 import contextlib
 import fcntl
@@ -12,8 +13,10 @@ from ..week.writing import file_at, is_open_file
 from .interrupts import interrupts
 from .program import NO_ROSTER
 
-# The exit status if another search writes the file, and the seconds between two looks whether it has ended.
-IN_USE, PAUSE = 2, 0.2
+# The exit status if another search writes the file, and the seconds between two looks whether it
+# has ended.
+IN_USE = 2
+PAUSE = 0.2
 # The most bytes of a file's name in that of its lock: a name may have 255.
 NAME_BYTES = 200
 
@@ -23,8 +26,8 @@ _locked: Set[Path] = set()
 
 @contextlib.contextmanager
 def locked(targets: Iterable[Path], wait: bool, say: Callable[[str], None]) -> Iterator[None]:
-    """Within the block no other search writes these files. Raises ProgramFault if one does, or waits until it has ended; `say` gets a
-    line about that."""
+    """Within the block no other search writes these files. Raises ProgramFault if one does, or
+    waits until it has ended; `say` gets a line about that."""
     with contextlib.ExitStack() as locks:
         for target in targets:
             locks.enter_context(_lock(target, wait, say))
@@ -67,7 +70,10 @@ def _taken(lock: Path, target: Path, wait: bool, say: Callable[[str], None]) -> 
             if not wait:
                 raise ProgramFault(
                     IN_USE,
-                    f"another search writes {target}: wait until it has ended (--wait), or choose another file",
+                    (
+                        f"another search writes {target}: wait until it has ended (--wait), or"
+                        " choose another file"
+                    ),
                 )
             if signals.caught:
                 raise Stopped(NO_ROSTER, f"stopped while another search writes {target}")
@@ -78,7 +84,8 @@ def _taken(lock: Path, target: Path, wait: bool, say: Callable[[str], None]) -> 
 
 
 def _try_to_take(lock: Path) -> Optional[int]:
-    """The handle of the lock; None if another process has it. The lock of a process ends with it, however it ends."""
+    """The handle of the lock; None if another process has it. The lock of a process ends with it,
+    however it ends."""
     while True:
         handle = os.open(lock, os.O_RDONLY | os.O_CREAT | os.O_NOFOLLOW, 0o666)
         try:

@@ -1,14 +1,18 @@
-"""A folder for all temporary files of a command. The folders of commands that were killed are removed by a later one."""
+"""A folder for all temporary files of a command. The folders of commands that were killed are
+removed by a later one."""
 
 import contextlib
 import fcntl
 import os
 import re
 import shutil
+import signal
 import tempfile
 import time
 from pathlib import Path
 from typing import Iterator
+
+from .interrupts import SIGNALS
 
 PREFIX = "inrc2pb-command-"
 _NAME = re.compile(PREFIX + "[a-z0-9_]{8}")
@@ -18,30 +22,37 @@ MIN_AGE = 60.0
 
 @contextlib.contextmanager
 def own_folder() -> Iterator[None]:
-    """Within the block temporary files are in a folder of their own, which is locked, and removed at the end."""
+    """Within the block temporary files are in a folder of their own, which is locked, and removed
+    at the end."""
     home = Path(tempfile.gettempdir())
     _remove_left(home)
-    before = tempfile.tempdir
-    try:
-        folder = tempfile.mkdtemp(prefix=PREFIX, dir=str(home))
-    except OSError:
-        # Whoever needs a temporary file gets this fault.
+    with contextlib.ExitStack() as at_end:
+        # A signal that comes now waits until the folder is sure to be removed.
+        before = signal.pthread_sigmask(signal.SIG_BLOCK, SIGNALS)
+        try:
+            # If there is no folder, whoever needs a temporary file gets the fault.
+            with contextlib.suppress(OSError):
+                _make(home, at_end)
+        finally:
+            signal.pthread_sigmask(signal.SIG_SETMASK, before)
         yield
-        return
+
+
+def _make(home: Path, at_end: contextlib.ExitStack) -> None:
+    """Makes the folder of temporary files, which is removed at the end."""
+    folder = tempfile.mkdtemp(prefix=PREFIX, dir=str(home))
+    at_end.callback(shutil.rmtree, folder, ignore_errors=True)
     lock = os.open(folder, os.O_RDONLY)
-    try:
-        with contextlib.suppress(OSError):
-            fcntl.flock(lock, fcntl.LOCK_EX)
-        tempfile.tempdir = folder
-        yield
-    finally:
-        tempfile.tempdir = before
-        shutil.rmtree(folder, ignore_errors=True)
-        os.close(lock)
+    at_end.callback(os.close, lock)
+    with contextlib.suppress(OSError):
+        fcntl.flock(lock, fcntl.LOCK_EX)
+    at_end.callback(setattr, tempfile, "tempdir", tempfile.tempdir)
+    tempfile.tempdir = folder
 
 
 def _remove_left(home: Path) -> None:
-    """Removes the old folders of this user that nobody locks. The lock of a process ends with it, however it ends."""
+    """Removes the old folders of this user that nobody locks. The lock of a process ends with it,
+    however it ends."""
     with contextlib.suppress(OSError):
         for path in [path for path in home.iterdir() if _NAME.fullmatch(path.name)]:
             with contextlib.suppress(OSError):

@@ -1,4 +1,5 @@
-"""Child processes that run for a limited time. Each is a group of its own, and is ended as a group."""
+"""Child processes that run for a limited time. Each is a group of its own, and is ended as a
+group."""
 
 import contextlib
 import functools
@@ -21,8 +22,10 @@ LAST_BYTES = 200
 # The bytes that are read at once.
 PIECE = 1 << 16
 # Seconds that a process has to end after its output did, and between two looks whether it has.
-EXIT_SECONDS, EXIT_PAUSE = 0.5, 0.005
-# The seconds of one wait for output. One more wait gets the last output of a process that has ended.
+EXIT_SECONDS = 0.5
+EXIT_PAUSE = 0.005
+# The seconds of one wait for output. One more wait gets the last output of a process that has
+# ended.
 PAUSE = 0.1
 # The most seconds of one wait: the system limits them.
 MAX_WAIT = 3600.0
@@ -32,8 +35,9 @@ NOT_RUN = (126, 127)
 
 @dataclass(frozen=True)
 class Ended:
-    """How a process ended: its exit status, its output, whether it was ended before it ended itself, the end of its standard error,
-    and whether it was ended because it printed more than MAX_OUTPUT, of which nothing is kept."""
+    """How a process ended: its exit status, its output, whether it was ended before it ended
+    itself, the end of its standard error, and whether it was ended because it printed more than
+    MAX_OUTPUT, of which nothing is kept."""
 
     status: int
     data: bytes
@@ -77,7 +81,8 @@ class Processes:
         ending: int = signal.SIGTERM,
         hear: Optional[Callable[[bytes], None]] = None,
     ) -> Ended:
-        """Runs a command for at most these seconds. `hear` gets its output while it comes. It is killed if this process is."""
+        """Runs a command for at most these seconds. `hear` gets its output while it comes. It is
+        killed if this process is."""
         # `setpriv` would give a file of an unknown kind to a shell.
         prefix = _ending_with_this() if _is_executable(words[0]) else ()
         ended = self._run([*prefix, *words], seconds, folder, ending, hear)
@@ -126,8 +131,8 @@ class Processes:
         )
 
     def open(self, words: Sequence[str], folder: Path) -> "subprocess.Popen[bytes]":
-        """Starts a process that answers on its standard output until `close`. It is ended with the others. Its words see to it that it ends
-        when this process does."""
+        """Starts a process that answers on its standard output until `close`. It is ended with the
+        others. Its words see to it that it ends when this process does."""
         with self._lock:
             process = subprocess.Popen(
                 list(words),
@@ -159,7 +164,8 @@ class Processes:
         return self._stopped
 
     def ask_to_end(self) -> None:
-        """Lets all processes print their answers as if their time was over, and starts none any more."""
+        """Lets all processes print their answers as if their time was over, and starts none any
+        more."""
         with self._lock:
             self._stopped = True
             for process, ending in self._running.items():
@@ -192,7 +198,8 @@ def _is_executable(command: str) -> bool:
 
 @functools.lru_cache(maxsize=None)
 def _ending_with_this() -> Tuple[str, ...]:
-    """The words before a command that is to be killed when this process is; none if the system has no such `setpriv`."""
+    """The words before a command that is to be killed when this process is; none if the system has
+    no such `setpriv`."""
     words = ("setpriv", "--pdeathsig", "KILL")
     try:
         subprocess.run(
@@ -209,7 +216,8 @@ def _ending_with_this() -> Tuple[str, ...]:
 
 
 def _wait_without_reaping(process: "subprocess.Popen[bytes]", seconds: float) -> None:
-    """Waits until the process has ended, for at most these seconds. Its number stays its own, so its group can be ended."""
+    """Waits until the process has ended, for at most these seconds. Its number stays its own, so
+    its group can be ended."""
     limit = time.monotonic() + seconds
     while not _has_ended(process) and time.monotonic() < limit:
         time.sleep(EXIT_PAUSE)
@@ -244,12 +252,15 @@ def _output_of(
     ending: int,
     hear: Optional[Callable[[bytes], None]],
 ) -> _Output:
-    """The output until its end, with the last bytes of standard error; at the limit the process is asked to end, and after the
-    grace it is killed. A child that the process has left behind, and that keeps its output open, is not waited for.
+    """The output until its end, with the last bytes of standard error; at the limit the process is
+    asked to end, and after the grace it is killed. A child that the process has left behind, and
+    that keeps its output open, is not waited for.
     """
     assert process.stdout is not None and process.stderr is not None
     parts: List[bytes] = []
-    size, errors, timed_out = 0, b"", False
+    size = 0
+    errors = b""
+    timed_out = False
     limit = time.monotonic() + seconds
     with selectors.DefaultSelector() as streams:
         streams.register(process.stdout, selectors.EVENT_READ)

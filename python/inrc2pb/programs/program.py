@@ -15,9 +15,16 @@ from ..week.faults import ProgramFault
 from ..week.soft_rules import SOFT_RULES
 from .processes import Processes
 
-# The exit statuses of `inrc2pb`, which README.md explains, and the one with which a shell reports that there is no program.
-FAULT, READ_OR_WRITE, OUT_OF_MEMORY, NO_ROSTER, BROKEN_RULE, NO_PROGRAM = 1, 3, 4, 5, 6, 127
-# A run takes less, also of the largest week; one that waits for a pipe that nobody writes would not end.
+# The exit statuses of `inrc2pb`, which README.md explains, and the one with which a shell reports
+# that there is no program.
+FAULT = 1
+READ_OR_WRITE = 3
+OUT_OF_MEMORY = 4
+NO_ROSTER = 5
+BROKEN_RULE = 6
+NO_PROGRAM = 127
+# A run takes less, also of the largest week; one that waits for a pipe that nobody writes would not
+# end.
 LONGEST_RUN = 600.0
 _READ_OPTIONS = ("--sce", "--his", "--week", "--fix", "--from", "--answer")
 
@@ -28,7 +35,8 @@ class NotInTime(ProgramFault):
 
 @dataclass(frozen=True)
 class WeekFiles:
-    """The files of a week, and the options that each command needs alike. `given` has the facts that the search keeps."""
+    """The files of a week, and the options that each command needs alike. `given` has the facts
+    that the search keeps."""
 
     scenario: Path
     history: Path
@@ -65,7 +73,8 @@ class WeekFiles:
 
 @dataclass(frozen=True)
 class Report:
-    """The report of `decode`: `by_rule` has the cost of each soft rule, `text` is the report as it was printed."""
+    """The report of `decode`: `by_rule` has the cost of each soft rule, `text` is the report as it
+    was printed."""
 
     status: str
     objective: int
@@ -86,7 +95,8 @@ class Report:
 
 
 def find_program() -> Path:
-    """`$INRC2PB`; else `inrc2pb` next to the running command, in `out` of its clone, or in PATH. Raises ProgramFault if there is none."""
+    """`$INRC2PB`; else `inrc2pb` next to the running command, in `out` of its clone, or in PATH.
+    Raises ProgramFault if there is none."""
     named = os.environ.get("INRC2PB")
     if named:
         program = shutil.which(named)
@@ -112,13 +122,17 @@ def find_program() -> Path:
             return place.absolute()
     raise ProgramFault(
         NO_PROGRAM,
-        "there is no inrc2pb: run `make` in its folder, install it, or name it in the variable INRC2PB",
+        (
+            "there is no inrc2pb: run `make` in its folder, install it, or name it in the variable"
+            " INRC2PB"
+        ),
     )
 
 
 @functools.lru_cache(maxsize=None)
 def _is_inrc2pb(program: str) -> bool:
-    """Whether the program prints the version of `inrc2pb`. One that does not run, or that a signal ends, is judged when it is used."""
+    """Whether the program prints the version of `inrc2pb`. One that does not run, or that a signal
+    ends, is judged when it is used."""
     try:
         ran = subprocess.run(
             [program, "--version"],
@@ -133,9 +147,11 @@ def _is_inrc2pb(program: str) -> bool:
 
 
 def run_program(*words: str, given: str = "", program: Optional[Path] = None) -> str:
-    """Runs `inrc2pb`, or another program, on these words and this standard input, and returns its standard output.
+    """Runs `inrc2pb`, or another program, on these words and this standard input, and returns its
+    standard output. Another program has no limit of time, since a proof may take long.
 
-    It runs in a session of its own, so that Ctrl-C ends the command and not a check that it has begun.
+    It runs in a session of its own, so that Ctrl-C ends the command and not a check that it has
+    begun.
     """
     name = str(program or find_program())
     try:
@@ -145,7 +161,7 @@ def run_program(*words: str, given: str = "", program: Optional[Path] = None) ->
             stdout=subprocess.PIPE,
             stderr=subprocess.PIPE,
             start_new_session=True,
-            timeout=LONGEST_RUN,
+            timeout=None if program else LONGEST_RUN,
         )
     except subprocess.TimeoutExpired as fault:
         raise _does_not_end(words) from fault
@@ -156,7 +172,12 @@ def run_program(*words: str, given: str = "", program: Optional[Path] = None) ->
 
 
 def _does_not_end(words: Sequence[str]) -> ProgramFault:
-    advice = "a pipe can be read only once, so give files"
+    files = [path for option, path in zip(words, words[1:]) if option in _READ_OPTIONS]
+    advice = (
+        "a pipe can be read only once, so give files"
+        if any(Path(path).is_fifo() for path in files)
+        else "the machine is slow, or a file has no end"
+    )
     return ProgramFault(
         READ_OR_WRITE, f"inrc2pb {words[0]} did not end in {LONGEST_RUN:.0f} s: {advice}"
     )
@@ -167,7 +188,8 @@ def _does_not_run(program: str, fault: OSError) -> ProgramFault:
 
 
 def _check_status(status: int, errors: str, words: Sequence[str]) -> None:
-    """Raises ProgramFault if the status is not 0, with the first line of standard error, and the file that cannot be read."""
+    """Raises ProgramFault if the status is not 0, with the first line of standard error, and the
+    file that cannot be read."""
     lines = errors.strip().splitlines()
     if status == READ_OR_WRITE and lines and lines[0].endswith(": read failed"):
         _check_readable(lines[0], words)
@@ -178,7 +200,8 @@ def _check_status(status: int, errors: str, words: Sequence[str]) -> None:
 
 
 def _check_readable(line: str, words: Sequence[str]) -> None:
-    """Raises ProgramFault with this line if a file of these words cannot be read, caused by its OSError."""
+    """Raises ProgramFault with this line if a file of these words cannot be read, caused by its
+    OSError."""
     for option, path in zip(words, words[1:]):
         if option in _READ_OPTIONS:
             try:
@@ -212,7 +235,8 @@ def encode(files: WeekFiles, model: Path) -> None:
 def run_unless_stopped(
     program: Path, words: Sequence[str], seconds: float, processes: Processes
 ) -> Optional[str]:
-    """Runs a program as one of the `processes`, and returns its standard output; None if they are stopped before its end."""
+    """Runs a program as one of the `processes`, and returns its standard output; None if they are
+    stopped before its end."""
     try:
         ended = processes.run([str(program), *words], seconds, Path.cwd(), signal.SIGKILL)
     except OSError as fault:
@@ -226,7 +250,8 @@ def run_unless_stopped(
 
 
 def encode_unless_stopped(files: WeekFiles, model: Path, processes: Processes) -> bool:
-    """As `encode`, in one of the `processes`. Returns whether the model is whole: it is not if they are stopped before."""
+    """As `encode`, in one of the `processes`. Returns whether the model is whole: it is not if they
+    are stopped before."""
     words = _encode_words(files, model)
     try:
         return run_unless_stopped(find_program(), words, LONGEST_RUN, processes) is not None
@@ -235,7 +260,8 @@ def encode_unless_stopped(files: WeekFiles, model: Path, processes: Processes) -
 
 
 def decode(files: WeekFiles, answer: Union[str, Path], solution: Optional[Path] = None) -> Report:
-    """Checks a solver's answer, a text or a file, writes its roster to the file `solution`, and returns the report.
+    """Checks a solver's answer, a text or a file, writes its roster to the file `solution`, and
+    returns the report.
 
     Raises ProgramFault if an answer is no roster of this week, and leaves `solution` as it was.
     """
@@ -246,12 +272,14 @@ def decode(files: WeekFiles, answer: Union[str, Path], solution: Optional[Path] 
 
 
 def answer_with(files: WeekFiles, roster: Path) -> str:
-    """The answer whose roster this is, by `extend`. Raises ProgramFault if it breaks a hard rule."""
+    """The answer whose roster this is, by `extend`. Raises ProgramFault if it breaks a hard
+    rule."""
     return run_program("extend", *files.options(), "--from", str(roster))
 
 
 def extend(files: WeekFiles, roster: Path) -> Tuple[str, Report]:
-    """The answer whose roster this is, and its report. Raises ProgramFault if it breaks a hard rule."""
+    """The answer whose roster this is, and its report. Raises ProgramFault if it breaks a hard
+    rule."""
     answer = answer_with(files, roster)
     return answer, decode(files, answer)
 

@@ -11,11 +11,12 @@ BOUND_SECONDS = 5.0
 
 
 class Progress:
-    """Prints each improvement: on one line that changes on a terminal, else on a line of its own. `named` changes the text of a warning,
-    so that it names the user's files."""
+    """Prints each improvement: on one line that changes on a terminal, else on a line of its own.
+    `named` changes the text of a warning, so that it names the user's files."""
 
     def __init__(self, target: Optional[TextIO], named: Callable[[str], str] = str) -> None:
-        self._target, self._named = target, named
+        self._target = target
+        self._named = named
         self._began = self._printed = time.monotonic()
         self._updates = target is not None and target.isatty()
         self._width = 0
@@ -27,7 +28,8 @@ class Progress:
 
     def improved(self, penalty: int, finder: str) -> None:
         """A roster of this penalty was found."""
-        self._penalty, self._finder = penalty, finder
+        self._penalty = penalty
+        self._finder = finder
         self._show()
 
     def bound_rose(self, bound: int) -> None:
@@ -84,16 +86,16 @@ class Progress:
 
 
 class WardProgress(Progress):
-    """The same for people who plan a ward: in points, and with what cannot be avoided."""
+    """The same for people who plan a ward: in points, and with what cannot be avoided, unless that
+    has points for changed shifts, which the plan at the end has not."""
 
     def _words(self) -> str:
         if self._penalty is None:
-            return "no plan yet" + (
-                "" if self._bound is None else f"; at least {self._bound} points cannot be avoided"
-            )
-        what = ", those for changed shifts among them" if self.counts_changes else ""
+            return "no plan yet"
+        if self.counts_changes:
+            return f"{self._penalty} points, those for changed shifts among them"
         least = "" if self._bound is None else f"; at least {self._bound} cannot be avoided"
-        return f"{self._penalty} points{what}{least}"
+        return f"{self._penalty} points{least}"
 
 
 def gap_share(penalty: int, bound: int) -> str:

@@ -1,4 +1,5 @@
-"""The secret of an address, kept in a file that only its user may read, so that a bookmark lives longer than one run."""
+"""The secret of an address, kept in a file that only its user may read, so that a bookmark lives
+longer than one run."""
 
 import os
 import re
@@ -18,7 +19,8 @@ def new_secret() -> str:
 
 
 def kept_secret(path: Path) -> str:
-    """The secret that a file keeps; a new one is written if there is no file. Raises Misuse if others may read or have written it."""
+    """The secret that a file keeps; a new one is written if there is no file. Raises Misuse if
+    others may read or have written it."""
     try:
         handle = os.open(path, os.O_WRONLY | os.O_CREAT | os.O_EXCL, 0o600)
     except FileExistsError:
@@ -40,11 +42,13 @@ def _read(path: Path) -> str:
             raise Misuse(f"--secret {path}: this file is another user's: name one of your own")
         if status.st_mode & 0o077:
             raise Misuse(
-                f"--secret {path}: others may read this file: type chmod 600, or delete it, and a new secret is written"
+                f"--secret {path}: others may read this file: type chmod 600, or delete it, and a"
+                " new secret is written"
             )
         text = file.read(_MOST_BYTES).decode("ascii", errors="replace").strip()
     if not _SECRET.fullmatch(text):
         raise Misuse(
-            f"--secret {path}: this file has no secret, which is one word of 16 letters or more: delete it, and one is written"
+            f"--secret {path}: this file has no secret, which is one word of 16 letters or more:"
+            " delete it, and one is written"
         )
     return text

@@ -1,4 +1,5 @@
-"""What the facts of a case say about a plan, in its numbers: choices that are forbidden, nurses at places, and charges of shift runs."""
+"""What the facts of a case say about a plan, in its numbers: choices that are forbidden, nurses at
+places, and charges of shift runs."""
 
 from typing import Dict, NamedTuple, Optional, Set, Tuple
 
@@ -22,21 +23,25 @@ class Count(NamedTuple):
 class CaseLimits:
     """The limits of a case. Without its facts they are those of the plan.
 
-    `least` and `most` limit the charges of shift runs of all nurses, `odd` is None if their number may be even or odd.
-    `given_up` nurses are missing in every roster of the case, beside those below the optimal numbers of the case. If it `is_empty`, a place
-    has fewer nurses than its minimum, so it has no roster.
+    `least` and `most` limit the charges of shift runs of all nurses, `odd` is None if their number
+    may be even or odd. `given_up` nurses are missing in every roster of the case, beside those
+    below the optimal numbers of the case. If it `is_empty`, a place has fewer nurses than its
+    minimum, so it has no roster.
     """
 
     def __init__(
         self, crews: Crews, case: Case, nurses: Dict[str, int], shifts: Dict[str, int]
     ) -> None:
-        self.minimum, self.optimal, self.given_up = list(crews.minimum), list(crews.optimal), 0
+        self.minimum = list(crews.minimum)
+        self.optimal = list(crews.optimal)
+        self.given_up = 0
         self.is_empty = False
         self.forbidden: Dict[int, Set[Tuple[int, int]]] = {}
         self.least: Optional[Count] = None
         self.most: Optional[Count] = None
         self.odd: Optional[bool] = None
-        self._nurses, self._shifts = nurses, shifts
+        self._nurses = nurses
+        self._shifts = shifts
         self._places = {place: number for number, place in enumerate(crews.places)}
         for index, claim in enumerate(case):
             self._take(index, claim)
@@ -61,10 +66,8 @@ class CaseLimits:
             self.least = count
 
     def _choice(self, fact: Choice, holds: bool) -> None:
-        day, choice = (
-            WEEK_DAYS * (fact.week - 1) + fact.day,
-            self._shifts[fact.shift] if fact.shift else 0,
-        )
+        day = WEEK_DAYS * (fact.week - 1) + fact.day
+        choice = self._shifts[fact.shift] if fact.shift else 0
         others = [other for other in range(len(self._shifts) + 1) if (other == choice) != holds]
         self.forbidden.setdefault(self._nurses[fact.nurse], set()).update(
             (day, other) for other in others
@@ -81,7 +84,8 @@ class CaseLimits:
             self.optimal[place] = max(self.optimal[place], fact.most + 1)
 
     def in_steps(self, cost: Thousandths) -> Points:
-        """The minimum penalty of a roster of the case that costs no less than this. None is below 0."""
+        """The minimum penalty of a roster of the case that costs no less than this. None is below
+        0."""
         points = in_steps(cost)
         return Points(points + STEP * (self.odd is not None and (points // STEP) % 2 != self.odd))
 

@@ -1,4 +1,5 @@
-"""The pricing of cases, for all nurses at once: charges of shift runs are counted apart, so that a surcharge is one number."""
+"""The pricing of cases, for all nurses at once: charges of shift runs are counted apart, so that a
+surcharge is one number."""
 
 import numpy
 from typing import Any, Dict, List, NamedTuple, Optional, Set, Tuple
@@ -13,7 +14,8 @@ from .pricing import Crews, NurseWeek, Prices, Pricing
 from .row_arrays import Arrays, Member
 from .row_graph import Check
 
-# The points that a charge of a shift run costs in the graphs, so that the number of charges can be read from a cost.
+# The points that a charge of a shift run costs in the graphs, so that the number of charges can be
+# read from a cost.
 _CODE = 10_000_000
 
 
@@ -27,21 +29,24 @@ class PricedRow(NamedTuple):
 
 
 class Found(NamedTuple):
-    """The cheapest row of each nurse at some prices, and what no roster of the case costs less than by these prices."""
+    """The cheapest row of each nurse at some prices, and what no roster of the case costs less than
+    by these prices."""
 
     rows: List[PricedRow]
     bound: Thousandths
 
 
 def _split(coded: Any) -> Tuple[Any, Any]:
-    """The costs of steps without shift runs, in thousandths, and their numbers of charges of them."""
+    """The costs of steps without shift runs, in thousandths, and their numbers of charges of
+    them."""
     runs = (coded + _CODE * POINT // 2) // (_CODE * POINT)
     return coded - runs * _CODE * POINT, runs
 
 
 def _apart(arrays: Arrays) -> Arrays:
     """The same graph with the charges of shift runs apart."""
-    days, runs = [], []
+    days = []
+    runs = []
     for coded, heads, entered in arrays.days:
         never = coded >= NEVER // 2
         costs, charges = _split(numpy.where(never, 0, coded))
@@ -55,10 +60,12 @@ class CasePricing:
 
     def __init__(self, plan: Plan, crews: Crews, check: Check) -> None:
         pricing = Pricing(plan, crews, check, _CODE)
-        self.plan, self.crews = plan, crews
+        self.plan = plan
+        self.crews = crews
         self.numbers = {nurse: number for number, nurse in enumerate(plan.nurses)}
         self.shifts = {shift: number for number, shift in enumerate(plan.scenario.shift_types, 1)}
-        self._starts, self._base = pricing.starts, pricing.base
+        self._starts = pricing.starts
+        self._base = pricing.base
         self._graphs = pricing.graphs
         apart = {id(graph): _apart(graph.arrays) for graph in pricing.graphs}
         graphs = zip(pricing.graphs, pricing.starts)
@@ -75,7 +82,9 @@ class CasePricing:
 
     def counted(self, nurse: int, row: NurseWeek) -> Optional[PricedRow]:
         """A row with its cost and its charges; None if a hard rule forbids it."""
-        node, cost, number = self._starts[nurse], self._base[nurse], 0
+        node = self._starts[nurse]
+        cost = self._base[nurse]
+        number = 0
         for day, (arcs, choice) in enumerate(zip(self._graphs[nurse].days, row)):
             if (
                 arcs.costs[choice][node] >= NEVER // 2
@@ -83,13 +92,15 @@ class CasePricing:
             ):
                 return None
             step, runs = _split(arcs.costs[choice][node])
-            cost, number = cost + step + int(self._wishes[nurse, day, choice]), number + runs
+            cost = cost + step + int(self._wishes[nurse, day, choice])
+            number = number + runs
             node = arcs.heads[choice][node]
         return PricedRow(nurse, row, Points(cost // POINT + SHIFT_RUN * number), number)
 
     def price(self, limits: CaseLimits, prices: Prices, surcharge: int) -> Optional[Found]:
-        """The cheapest rows of a case at these prices, and its bound; None if it has no roster. A surcharge below 0 is for charges of shift
-        runs that are due, one above 0 for those that are too many; without such a limit there is none.
+        """The cheapest rows of a case at these prices, and its bound; None if it has no roster. A
+        surcharge below 0 is for charges of shift runs that are due, one above 0 for those that are
+        too many; without such a limit there is none.
         """
         if limits.is_empty:
             return None
@@ -137,10 +148,15 @@ class CasePricing:
         found = self.price(limits, leaf.prices, surcharge_of(limits, leaf))
         return None if found is None else limits.in_steps(found.bound)
 
-    def bound_of(self, certificate: Certificate) -> Points:
-        """What no roster costs less than by a certificate, each leaf priced anew."""
-        found = (self.bound(case, leaf) for case, leaf in certificate.leaves())
-        return min((points for points in found if points is not None), default=Points(NEVER))
+    def bound_of(self, certificate: Certificate, check: Check = lambda: None) -> Points:
+        """What no roster costs less than by a certificate, each leaf priced anew. `check` is called
+        before each, and ends this by a fault if no time is left."""
+        bound = Points(NEVER)
+        for case, leaf in certificate.leaves():
+            check()
+            points = self.bound(case, leaf)
+            bound = bound if points is None else min(bound, points)
+        return bound
 
 
 def surcharge_of(limits: CaseLimits, leaf: Leaf) -> int:

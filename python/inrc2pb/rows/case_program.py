@@ -1,5 +1,7 @@
-"""The linear program over known rows for one case after another: rows are added to it, and a case changes its bounds."""
+"""The linear program over known rows for one case after another: rows are added to it, and a case
+changes its bounds."""
 
+import math
 from typing import Dict, Iterable, List, NamedTuple, Set, Tuple
 
 from ..programs.clock import Clock
@@ -9,20 +11,20 @@ from .case_limits import CaseLimits
 from .case_pricing import CasePricing, PricedRow
 from .plan import POINT
 from .pricing import MAX_PRICE, Prices, NurseWeek
-from .row_program import BELOW_MINIMUM
+from .row_program import BELOW_MINIMUM, EXACT
 
-# The cost of what makes each program feasible: a nurse without a row, and charges of shift runs that are due or too many.
+# The cost of what makes each program feasible: a nurse without a row, and charges of shift runs
+# that are due or too many.
 _ARTIFICIAL = 20_000.0
-_ANY = 1e30
-# The most steps of the simplex method for one solution. The prices at which it was stopped prove something, too.
+# The most steps of the simplex method for one solution. The prices at which it was stopped prove
+# something, too.
 SOLUTION_STEPS = 20_000
-# A share no greater than this is none.
-EXACT = 1e-6
 
 
 class CaseSolution(NamedTuple):
-    """A solution: its value in points, prices of places and of nurses and the surcharge of shift runs in thousandths, the shares of rows,
-    and the nurses that are missing at places. `is_real` says whether its rows keep the minimums and the limits of the case.
+    """A solution: its value in points, prices of places and of nurses and the surcharge of shift
+    runs in thousandths, the shares of rows, and the nurses that are missing at places. `is_real`
+    says whether its rows keep the minimums and the limits of the case.
     """
 
     value: float
@@ -41,24 +43,31 @@ class CaseProgram:
         self.rows: Dict[int, PricedRow] = {}
         # The steps of the simplex method until now.
         self.iterations = 0
-        self._pricing, self._crews, self._program = pricing, pricing.crews, program
-        self._limits, self._basis = pricing.limits(()), program.basis
+        self._pricing = pricing
+        self._crews = pricing.crews
+        self._program = program
+        self._limits = pricing.limits(())
+        self._basis = program.basis
         self._known: Set[Tuple[int, NurseWeek]] = set()
         self._numbers: List[List[int]] = [[] for _ in pricing.plan.nurses]
-        nurses, places = len(pricing.plan.nurses), len(self._crews.places)
+        nurses = len(pricing.plan.nurses)
+        places = len(self._crews.places)
         self._cover = range(nurses, nurses + places)
         shared = [crew for crew, members in enumerate(self._crews.members) if len(members) > 1]
         self._links = {crew: nurses + places + index for index, crew in enumerate(shared)}
         self._runs = nurses + places + len(shared)
         program.add_rows(
-            [(1.0, 1.0)] * nurses + [(float(best), _ANY) for best in self._crews.optimal]
+            [(1.0, 1.0)] * nurses + [(float(best), math.inf) for best in self._crews.optimal]
         )
-        program.add_rows([(0.0, _ANY)] * len(shared) + [(-_ANY, _ANY)])
+        program.add_rows([(0.0, math.inf)] * len(shared) + [(-math.inf, math.inf)])
         self._missing, self._fixed = self._add_fixed()
 
     def _add_fixed(self) -> Tuple[Dict[int, int], List[int]]:
-        """Adds the columns that are no rows of nurses. Returns those of nurses that are missing at places, and of what no roster has."""
-        program, crews, cost = self._program, self._crews, float(self._pricing.plan.missing_cost)
+        """Adds the columns that are no rows of nurses. Returns those of nurses that are missing at
+        places, and of what no roster has."""
+        program = self._program
+        crews = self._crews
+        cost = float(self._pricing.plan.missing_cost)
         asked = zip(self._cover, crews.minimum, crews.optimal)
         first = program.add_columns(
             [Column(cost, 0.0, float(best - least), [(row, 1.0)]) for row, least, best in asked]
@@ -66,16 +75,16 @@ class CaseProgram:
         flows = [(crew, place) for crew in self._links for place in crews.members[crew]]
         program.add_columns(
             [
-                Column(0.0, 0.0, _ANY, [(self._links[crew], -1.0), (self._cover[place], 1.0)])
+                Column(0.0, 0.0, math.inf, [(self._links[crew], -1.0), (self._cover[place], 1.0)])
                 for crew, place in flows
             ]
         )
         below = program.add_columns(
-            [Column(float(BELOW_MINIMUM), 0.0, _ANY, [(row, 1.0)]) for row in self._cover]
+            [Column(float(BELOW_MINIMUM), 0.0, math.inf, [(row, 1.0)]) for row in self._cover]
         )
         last = program.add_columns(
             [Column(_ARTIFICIAL, 0.0, 1.0, [(nurse, 1.0)]) for nurse in range(self._cover.start)]
-            + [Column(_ARTIFICIAL, 0.0, _ANY, [(self._runs, sign)]) for sign in (1.0, -1.0)]
+            + [Column(_ARTIFICIAL, 0.0, math.inf, [(self._runs, sign)]) for sign in (1.0, -1.0)]
         )
         return {place: first + place for place in range(len(self._cover))}, list(
             range(below, last + self._cover.start + 2)
@@ -105,33 +114,37 @@ class CaseProgram:
         return Column(
             float(priced.cost),
             0.0,
-            0.0 if _is_forbidden(priced.row, forbidden) else _ANY,
+            0.0 if _is_forbidden(priced.row, forbidden) else math.inf,
             list(entries.items()),
         )
 
     def take(self, limits: CaseLimits) -> None:
         """Goes on with the case of these limits."""
-        old, self._limits = self._limits, limits
-        rows, columns = {}, {}
+        old = self._limits
+        self._limits = limits
+        rows = {}
+        columns = {}
         for place, row in enumerate(self._cover):
             if (old.minimum[place], old.optimal[place]) != (
                 limits.minimum[place],
                 limits.optimal[place],
             ):
-                rows[row] = (float(limits.optimal[place]), _ANY)
+                rows[row] = (float(limits.optimal[place]), math.inf)
                 columns[self._missing[place]] = (
                     0.0,
                     float(limits.optimal[place] - limits.minimum[place]),
                 )
-        least, most = (
-            limits.least.number if limits.least else -_ANY,
-            limits.most.number if limits.most else _ANY,
-        )
+        least = limits.least.number if limits.least else -math.inf
+        most = limits.most.number if limits.most else math.inf
         rows[self._runs] = (float(least), float(most))
         for nurse in {*old.forbidden, *limits.forbidden}:
-            before, now = old.forbidden.get(nurse, set()), limits.forbidden.get(nurse, set())
+            before = old.forbidden.get(nurse, set())
+            now = limits.forbidden.get(nurse, set())
             for number in self._numbers[nurse] if before != now else ():
-                columns[number] = (0.0, 0.0 if _is_forbidden(self.rows[number].row, now) else _ANY)
+                columns[number] = (
+                    0.0,
+                    0.0 if _is_forbidden(self.rows[number].row, now) else math.inf,
+                )
         self._program.bound_rows(rows)
         self._program.bound_columns(columns)
 
@@ -140,7 +153,8 @@ class CaseProgram:
         self._basis = self._program.basis
 
     def rise(self, limits: CaseLimits, clock: Clock, iterations: int) -> float:
-        """The value in another case by the known rows, from the kept basis and after at most these steps of the dual simplex method."""
+        """The value in another case by the known rows, from the kept basis and after at most these
+        steps of the dual simplex method."""
         self.take(limits)
         self._program.take_basis(self._basis)
         found = self._program.solve(clock, DUAL, iterations, whole=False)
@@ -148,7 +162,8 @@ class CaseProgram:
         return self._value(found.value)
 
     def solve(self, clock: Clock, is_new_case: bool) -> CaseSolution:
-        """A solution of the program in the case that it has now, or where the method was stopped after its most steps."""
+        """A solution of the program in the case that it has now, or where the method was stopped
+        after its most steps."""
         found = self._program.solve(clock, DUAL, SOLUTION_STEPS) if is_new_case else None
         if found is None or found.status != OPTIMAL:
             found = self._program.solve(clock, PRIMAL, SOLUTION_STEPS)

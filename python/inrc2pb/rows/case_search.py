@@ -1,4 +1,5 @@
-"""The search of one case: for prices that prove that no roster of it costs less than the best one, else for the best split of it."""
+"""The search of one case: for prices that prove that no roster of it costs less than the best one,
+else for the best split of it."""
 
 from typing import List, NamedTuple, Optional, Sequence, Tuple
 
@@ -12,8 +13,9 @@ from .case_splits import Rated, best_split, suggested
 from .certificate import Case
 from .plan import POINT, STEP, Points, Thousandths
 from .pricing import Crews, Prices
-from .row_generation import EXACT, SMOOTHING, WORTH
+from .row_generation import SMOOTHING, WORTH
 from .row_graph import Check
+from .row_program import EXACT
 from .row_search import Known, Take
 
 # After this number of rounds of new rows a case is split, even if its prices might become better.
@@ -37,7 +39,8 @@ class CaseTask(NamedTuple):
 
 
 class Examined(NamedTuple):
-    """What a search of a case proves. If that is not its target, it has the value of its program in points, and its best split, if any."""
+    """What a search of a case proves. If that is not its target, it has the value of its program in
+    points, and its best split, if any."""
 
     proved: Proved
     value: float = 0.0
@@ -48,7 +51,8 @@ class CaseSearch:
     """Searches cases of a plan with one program, whose rows stay from one case to the next."""
 
     def __init__(self, pricing: CasePricing, program: CaseProgram) -> None:
-        self.pricing, self._program = pricing, program
+        self.pricing = pricing
+        self._program = program
 
     @staticmethod
     def begin(known: Known, crews: Crews, solver: LinearSolver, check: Check) -> "CaseSearch":
@@ -63,12 +67,16 @@ class CaseSearch:
         return CaseSearch(pricing, program)
 
     def close(self, clock: Clock, take: Take, task: CaseTask) -> Examined:
-        """Adds rows until the prices of a case prove its target, or they cannot. `take` gets each roster that a solution is."""
-        limits, best = self.pricing.limits(task.case), task.known
+        """Adds rows until the prices of a case prove its target, or they cannot. `take` gets each
+        roster that a solution is."""
+        limits = self.pricing.limits(task.case)
+        best = task.known
         self._program.take(limits)
-        share, turn = 0.0, 0
+        share = 0.0
+        turn = 0
         while True:
-            now, turn = self._program.solve(clock, is_new_case=turn == 0), turn + 1
+            now = self._program.solve(clock, is_new_case=turn == 0)
+            turn = turn + 1
             if now.is_real:
                 self._see(now, task.target, take)
                 if limits.in_steps(best.bound) >= limits.in_steps(
@@ -94,7 +102,8 @@ class CaseSearch:
     def _split(
         self, now: CaseSolution, task: CaseTask, limits: CaseLimits, clock: Clock
     ) -> Optional[Rated]:
-        """The best split of a case by a new fact, if its solution suggests one. Without rows for a limit it may suggest an old one, too."""
+        """The best split of a case by a new fact, if one raises its value. Without rows for a limit
+        a solution may suggest old ones, too."""
         old = {claim.fact for claim in task.case}
         facts = [
             fact for fact in suggested(self.pricing, self._program, now, limits) if fact not in old
@@ -129,6 +138,7 @@ class CaseSearch:
 
 def _between(best: Proved, now: CaseSolution, share: float) -> Tuple[Prices, int]:
     """Prices between the best ones of a case and those of a solution."""
-    old, new = [*best.prices, best.surcharge], [*now.prices, now.surcharge]
+    old = [*best.prices, best.surcharge]
+    new = [*now.prices, now.surcharge]
     *prices, surcharge = (round(share * one + (1 - share) * other) for one, other in zip(old, new))
     return prices, surcharge

@@ -11,19 +11,22 @@ from .case_pricing import CasePricing
 from .case_program import CaseProgram, CaseSolution
 from .certificate import Case
 from .plan import STEP, Points
+from .row_program import WHOLE
 
 _Key = TypeVar("_Key", int, NurseChoice)
-# A share this near to a whole number is one.
-WHOLE = 1e-3
-# The splits of each kind that are tried, the most steps of the dual simplex method for each case of one and for all, and the minimum
-# rise that counts as one.
-TRIED, STEPS, MOST_STEPS, LEAST_RISE = 5, 400, 6000, 1e-3
+# The splits of each kind that are tried, the most steps of the dual simplex method for each case of
+# one and for all, and the minimum rise that counts as one.
+TRIED = 5
+STEPS = 400
+MOST_STEPS = 6000
+LEAST_RISE = 1e-3
 # The weight of the higher of the two rises; the lower one has weight 1.
 HIGHER = 0.1
 
 
 class Rated(NamedTuple):
-    """A fact by which a case is split, and how much the value rises in the case in which it holds and in the one in which it does not."""
+    """A fact by which a case is split, and how much the value rises in the case in which it holds
+    and in the one in which it does not."""
 
     fact: Fact
     rises: Tuple[float, float]
@@ -40,7 +43,8 @@ class Rated(NamedTuple):
 def suggested(
     pricing: CasePricing, program: CaseProgram, now: CaseSolution, limits: CaseLimits
 ) -> Iterator[Fact]:
-    """The facts by which a solution is partly in one case and partly in the other: of each kind those nearest to one half."""
+    """The facts by which a solution is partly in one case and partly in the other: of each kind
+    those nearest to one half."""
     runs = 0.0
     off: Dict[NurseChoice, float] = {}
     on: Dict[NurseChoice, float] = {}
@@ -52,7 +56,8 @@ def suggested(
             counts[nurse, day, choice] = counts.get((nurse, day, choice), 0.0) + share
     if limits.odd is not None and _is_partly(runs):
         yield Charged(SHIFT_RUNS, None, math.floor(runs))
-    names, shifts = pricing.plan.nurses, [None, *pricing.shifts]
+    names = pricing.plan.nurses
+    shifts = [None, *pricing.shifts]
     for partly in (on, off):
         shares = {key: share for key, share in partly.items() if _is_partly(share)}
         for nurse, day, choice in _halves(shares):
@@ -89,7 +94,8 @@ def best_split(
     target: Points,
     clock: Clock,
 ) -> Optional[Rated]:
-    """The split whose cases cost most by the known rows. What they cost above the target does not count. None if no case costs more."""
+    """The split whose cases cost most by the known rows, what they cost above the target not
+    counted. None if no split makes one dearer."""
     program.keep_basis()
     most = pricing.limits(case).below(target) + STEP
     tried: List[Rated] = []

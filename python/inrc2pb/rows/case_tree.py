@@ -1,5 +1,6 @@
-"""A tree of cases that proves that no roster costs less than the best one: a case that prices do not close is split, the one with the least
-bound first. Several searches of cases work on it at once. It also finds better rosters."""
+"""A tree of cases that proves that no roster costs less than the best one: a case that prices do
+not close is split, the one with the least bound first. Several searches of cases work on it at
+once. It also finds better rosters."""
 
 import concurrent.futures
 import heapq
@@ -9,7 +10,7 @@ from dataclasses import dataclass, field
 from typing import Callable, FrozenSet, Iterable, List, Optional, Sequence, Tuple
 
 from ..judging.runs import NEVER
-from ..programs.clock import Clock
+from ..programs.clock import PAUSE, Clock
 from ..solvers.answers import SolverFault
 from ..week.facts import Claim, Even, Fact
 from .case_limits import CaseLimits
@@ -24,8 +25,6 @@ from .row_search import Take
 MOST_PRUNED = 30
 # A further search begins when the tree has this number of leaves for each of those before it.
 LEAVES_EACH = 6
-# The most seconds between two looks at the time.
-PAUSE = 0.2
 # Searches a case.
 Close = Callable[[Clock, Take, CaseTask], Examined]
 
@@ -47,8 +46,9 @@ class CaseNode:
 
 
 class CaseTree:
-    """The cases of a plan, which begin with these prices. `take` gets each roster that a solution is; `best` says what the best one costs,
-    which is to be proved. `heard` is called if the bound rises."""
+    """The cases of a plan, which begin with these prices. `take` gets each roster that a solution
+    is; `best` says what the best one costs, which is to be proved. `heard` is called if the bound
+    rises."""
 
     def __init__(
         self,
@@ -58,25 +58,32 @@ class CaseTree:
         take: Take,
         heard: Callable[[], None] = lambda: None,
     ) -> None:
-        self._pricing, self._best, self._take, self._heard = pricing, best, take, heard
+        self._pricing = pricing
+        self._best = best
+        self._take = take
+        self._heard = heard
         self.root = CaseNode((), pricing.limits(()), Proved(prices, 0, Thousandths(0)))
         self._number = itertools.count()
         self._open: List[Tuple[int, float, int, CaseNode]] = []
         # How many cases are searched now, and a guard of all that the searches share.
-        self._busy, self._changed = 0, threading.Condition()
+        self._busy = 0
+        self._changed = threading.Condition()
         # How many searches have ended by a fault, and the least bound of a case that is not split.
-        self._failed, self._unsplit = 0, Points(NEVER)
-        self.leaves = 0
+        self._failed = 0
+        self._unsplit = Points(NEVER)
+        self.leaves = 1
 
     @property
     def target(self) -> Points:
-        """What is to be proved: the penalty of the best roster, or less if no split raises the value of a case with a lower bound."""
+        """What is to be proved: the penalty of the best roster, or less if no split raises the
+        value of a case with a lower bound."""
         return min(self._best(), self._unsplit)
 
     # ---- the search
 
     def run(self, clock: Clock, searches: Sequence[Close]) -> None:
-        """Splits cases until the target is proved, or the time is over. The bound rises on the way."""
+        """Splits cases until the target is proved, or the time is over. The bound rises on the
+        way."""
         self._begin()
         with concurrent.futures.ThreadPoolExecutor(len(searches)) as pool:
             running = [
@@ -113,7 +120,8 @@ class CaseTree:
             cases.append(child)
             heapq.heappush(self._open, (child.points, value, -next(self._number), child))
         # Both at once: another thread may look at the bound.
-        node.cases, node.fact = cases, fact
+        node.cases = cases
+        node.fact = fact
         self.leaves += 1
 
     def _work(self, close: Close, clock: Clock, number: int) -> None:
@@ -139,7 +147,8 @@ class CaseTree:
     def _next(self, number: int, clock: Clock) -> Optional[Tuple[int, float, int, CaseNode]]:
         """The next case to be searched; None if there will be none."""
         with self._changed:
-            while self.leaves < MOST_LEAVES:
+            # Each case that is searched now may be split, too.
+            while self.leaves + self._busy < MOST_LEAVES:
                 is_open = bool(self._open) and self._open[0][0] < self.target
                 if is_open and self.leaves >= LEAVES_EACH * (number - self._failed):
                     self._busy += 1
@@ -175,7 +184,8 @@ class CaseTree:
 
     def certificate(self) -> Certificate:
         """The cases with their prices, without those that the bound does not need."""
-        plan, is_small = self._pricing.plan, self.leaves < MOST_PRUNED
+        plan = self._pricing.plan
+        is_small = self.leaves <= MOST_PRUNED
         return Certificate(
             len(plan.weeks),
             self._pricing.crews.places,
@@ -185,7 +195,8 @@ class CaseTree:
     def _needed(
         self, node: CaseNode, dropped: FrozenSet[Fact], bound: Points, prunes: bool
     ) -> Node:
-        """The tree of a case without these facts. A split is not needed if one of its cases proves the bound without its fact, too."""
+        """The tree of a case without these facts. A split is not needed if one of its cases proves
+        the bound without its fact, too."""
         if node.fact is None or self._proves(node, dropped, bound):
             return leaf_of(self._without(node, dropped), node.proved.prices, node.proved.surcharge)
         for case in node.cases if prunes else ():

@@ -1,4 +1,5 @@
-"""A certificate of a lower bound: a tree of cases, with prices for each case that is not split. Its bound is that of its worst leaf."""
+"""A certificate of a lower bound: a tree of cases, with prices for each case that is not split. Its
+bound is that of its worst leaf."""
 
 from dataclasses import dataclass
 from typing import Dict, Iterator, List, Sequence, Tuple, Union
@@ -16,7 +17,8 @@ Case = Tuple[Claim, ...]
 
 @dataclass(frozen=True)
 class Leaf:
-    """A case with prices of the plan's places, and a surcharge for each fact of the case, in thousandths."""
+    """A case with prices of the plan's places, and a surcharge for each fact of the case, in
+    thousandths."""
 
     prices: Prices
     surcharges: Tuple[int, ...] = ()
@@ -24,7 +26,8 @@ class Leaf:
 
 @dataclass(frozen=True)
 class Split:
-    """A case that is split: the case in which a fact holds, and the case in which it does not hold."""
+    """A case that is split: the case in which a fact holds, and the case in which it does not
+    hold."""
 
     fact: Fact
     holds: "Node"
@@ -36,7 +39,8 @@ Node = Union[Leaf, Split]
 
 @dataclass(frozen=True)
 class Certificate:
-    """A tree of cases of a plan of some weeks. Its prices are those of the places, in their order."""
+    """A tree of cases of a plan of some weeks. Its prices are those of the places, in their
+    order."""
 
     weeks: int
     places: Sequence[Place]

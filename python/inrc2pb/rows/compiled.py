@@ -1,9 +1,12 @@
-"""The pricing of rows by a compiled library, which `make` builds from cheapest_rows.c. Without it NumPy prices the same rows.
+"""The pricing of rows by a compiled library, which `make` builds from cheapest_rows.c. Without it
+NumPy prices the same rows.
 
-Nothing is trusted: the cost of each row is walked in Python, and each bound is proved by `inrc2pb-bound`.
+Nothing is trusted: the cost of each row is walked in Python, and each bound is proved by
+`inrc2pb-bound`.
 """
 
 import ctypes
+from ctypes import c_long, c_void_p
 import numpy
 from pathlib import Path
 from typing import Any, Sequence, Tuple, Union
@@ -13,22 +16,21 @@ from .row_arrays import Arrays, Blocks, Member
 NAME = "inrc2pb-rows.so"
 # The library has this number if its structures are those below.
 LAYOUT = 1
-_LONG, _POINTER = ctypes.c_long, ctypes.c_void_p
 
 
 class _Day(ctypes.Structure):
-    _fields_ = [("nodes", _LONG), ("arcs", _POINTER)]
+    _fields_ = [("nodes", c_long), ("arcs", c_void_p)]
 
 
 class _Nurse(ctypes.Structure):
-    _fields_ = [("days", _POINTER), ("rest", _POINTER), ("start", _LONG)]
+    _fields_ = [("days", c_void_p), ("rest", c_void_p), ("start", c_long)]
 
 
 class _Task(ctypes.Structure):
     _fields_ = [
-        *((name, _LONG) for name in ("count", "days", "choices", "run_cost")),
-        ("nurses", _POINTER),
-        ("pays", _POINTER),
+        *((name, c_long) for name in ("count", "days", "choices", "run_cost")),
+        ("nurses", c_void_p),
+        ("pays", c_void_p),
     ]
 
 
@@ -40,7 +42,7 @@ def load(path: Path) -> Any:
             return None
     except (OSError, ValueError):
         return None
-    found.cheapest_rows.argtypes = [_POINTER, _POINTER, _POINTER]
+    found.cheapest_rows.argtypes = [c_void_p, c_void_p, c_void_p]
     return found
 
 
@@ -61,7 +63,8 @@ class CompiledRows:
     """Nurses who are priced together by a library on these days."""
 
     def __init__(self, members: Sequence[Member], days: range, by: Any) -> None:
-        self._days, self._library = days, by
+        self._days = days
+        self._library = by
         # The arrays that the library reads live as long as these.
         self._members = members
         self._nurses = {member.nurse: self._nurse(member) for member in members}
@@ -77,9 +80,8 @@ class CompiledRows:
         """As that of Blocks."""
         pays = numpy.ascontiguousarray(pay[:, self._days.start : self._days.stop])
         chosen = (_Nurse * len(nurses))(*(self._nurses[nurse] for nurse in nurses))
-        costs, rows = numpy.empty(len(nurses), dtype=numpy.int64), numpy.zeros(
-            pays.shape[:2], dtype=numpy.uint8
-        )
+        costs = numpy.empty(len(nurses), dtype=numpy.int64)
+        rows = numpy.zeros(pays.shape[:2], dtype=numpy.uint8)
         task = _Task(*pays.shape, run_cost, ctypes.addressof(chosen), pays.ctypes.data)
         if self._library.cheapest_rows(ctypes.addressof(task), costs.ctypes.data, rows.ctypes.data):
             raise MemoryError
@@ -89,12 +91,14 @@ class CompiledRows:
 def _arcs(arrays: Arrays) -> Any:
     """The days of a graph for the library, which are kept with it."""
     if arrays.compiled is None:
-        days, kept = (_Day * (len(arrays.days) + 1))(), []
+        days = (_Day * (len(arrays.days) + 1))()
+        kept = []
         for number, (costs, heads, _) in enumerate(arrays.days):
             arcs = numpy.zeros(
                 costs.T.shape, dtype=[("cost", "i8"), ("head", "i4"), ("runs", "i4")]
             )
-            arcs["cost"], arcs["head"] = costs.T, heads.T
+            arcs["cost"] = costs.T
+            arcs["head"] = heads.T
             if arrays.runs:
                 arcs["runs"] = arrays.runs[number].T
             kept.append(arcs)

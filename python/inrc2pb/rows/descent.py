@@ -20,7 +20,9 @@ class Descent:
     """Rows that get better: one nurse after another has the best row beside those of all others."""
 
     def __init__(self, pricing: Pricing, rows: Sequence[NurseWeek]) -> None:
-        self._pricing, self._crews, self.rows = pricing, pricing.crews, list(rows)
+        self._pricing = pricing
+        self._crews = pricing.crews
+        self.rows = list(rows)
         self._number = [0] * len(self._crews.places)
         self._placed: List[List[int]] = [[] for _ in rows]
         index = {place: number for number, place in enumerate(self._crews.places)}
@@ -30,7 +32,8 @@ class Descent:
             if place is not None:
                 self._placed[names[cell.nurse]].append(place)
                 self._number[place] += 1
-        # The crews that count at each place, and what one more nurse of each crew is worth, in thousandths.
+        # The crews that count at each place, and what one more nurse of each crew is worth, in
+        # thousandths.
         self._crews_at: List[List[int]] = [[] for _ in self._crews.places]
         for crew, places in enumerate(self._crews.members):
             for place in places:
@@ -65,9 +68,8 @@ class Descent:
         check()
         table = self._crews.of[nurse]
         self._move(self._placed[nurse], -1)
-        old, found = self._pricing.cost(nurse, self.rows[nurse]), self._pricing.cheapest(
-            nurse, self._worth
-        )
+        old = self._pricing.cost(nurse, self.rows[nurse])
+        found = self._pricing.cheapest(nurse, self._worth)
         earned = sum(
             int(self._worth[table[day][choice]]) for day, choice in enumerate(self.rows[nurse])
         )

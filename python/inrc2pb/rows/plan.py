@@ -1,6 +1,7 @@
 """The weeks to plan, as one stretch of days: nurses, choices and places as numbers.
 
-Days count from 0 through all weeks. A choice is 0 for a day off, and one more than the index of its shift type otherwise.
+Days count from 0 through all weeks. A choice is 0 for a day off, and one more than the index of its
+shift type otherwise.
 """
 
 from dataclasses import dataclass, replace
@@ -42,38 +43,46 @@ Thousandths = NewType("Thousandths", int)
 POINT = 1000
 # The costs of all rosters are multiples of it.
 STEP = 5
+# With more weeks than this prices and dives take long.
+FEW_WEEKS = 4
 
+# The rows of a nurse on a day that are held; none: she is off.
 Held = Dict[Tuple[str, int], List[Cell]]
 
 
 class Calls(NamedTuple):
-    """The rows of nurses in an older roster, and what a nurse costs whose row differs from it, in points. ANY_CHOICE differs from none."""
+    """The rows of nurses in an older roster, and what a nurse costs whose row differs from it, in
+    points. ANY_CHOICE differs from none."""
 
     older: Mapping[str, bytes] = {}
     points: int = 0
 
 
 class Keeping(NamedTuple):
-    """What each broken absence costs more, and each charge above a limit that is kept, or day beside days away that should be otherwise, in
-    points. NEVER: rows may not have it."""
+    """What each broken absence costs more, and each charge above a limit that is kept, or day
+    beside days away that should be otherwise, in points. NEVER: rows may not have it."""
 
     absence: int
     limit: int
 
 
-STRICT, ONLY_ABSENCES, FREE = Keeping(NEVER, NEVER), Keeping(NEVER, 0), Keeping(0, 0)
+STRICT = Keeping(NEVER, NEVER)
+ONLY_ABSENCES = Keeping(NEVER, 0)
+FREE = Keeping(0, 0)
 # If no roster keeps all: absences come first.
-ABSENCES_KEPT, FEW_BROKEN = Keeping(NEVER, 600), Keeping(3000, 600)
+ABSENCES_KEPT = Keeping(NEVER, 600)
+FEW_BROKEN = Keeping(3000, 600)
 
 
 @dataclass(frozen=True)
 class Plan:
     """What is asked for on these days, and by whom it can be done.
 
-    `demand` has the places that ask for nurses, with the day of the plan; its optimal numbers are not below its minimums.
-    `nurses` are those whose rows are searched, and `keeping` says how their rows keep the absences of `away`, with the day of the plan,
-    the limits, and the days beside those of `beside`. Without `charging` only the hard rules count: nothing costs anything, and each
-    nurse below a minimum costs one point.
+    `demand` has the places that ask for nurses, with the day of the plan; its optimal numbers are
+    not below its minimums. `nurses` are those whose rows are searched, and `keeping` says how their
+    rows keep the absences of `away`, with the day of the plan, the limits, and the days beside
+    those of `beside`. Without `charging` only the hard rules count: nothing costs anything, and
+    each nurse below a minimum costs one point.
     """
 
     scenario: Scenario
@@ -99,7 +108,8 @@ class Plan:
         held: Iterable[Cell] = (),
         keeping: Keeping = STRICT,
     ) -> "Plan":
-        """The plan of these weeks, which follow the history. The days of held rows are those of the plan."""
+        """The plan of these weeks, which follow the history. The days of held rows are those of the
+        plan."""
         rows: Held = {}
         for row in held:
             rows.setdefault((row.nurse, row.day), []).append(row)
@@ -135,6 +145,11 @@ class Plan:
     def days(self) -> int:
         """The number of days."""
         return WEEK_DAYS * len(self.weeks)
+
+    @property
+    def is_long(self) -> bool:
+        """Whether prices and dives take long."""
+        return len(self.weeks) > FEW_WEEKS
 
     @property
     def ends(self) -> bool:
@@ -173,13 +188,15 @@ class Plan:
             yield self.kept(FEW_BROKEN)
 
     def most_above(self, nurse: str, kind: str) -> Optional[int]:
-        """How often the nurse may exceed her contract's maximum of this kind; None if no limit of hers is kept."""
+        """How often the nurse may exceed her contract's maximum of this kind; None if no limit of
+        hers is kept."""
         return min(
             (limit.most for limit in self.limits if limit[:2] == (nurse, kind)), default=None
         )
 
     def beside_of(self, nurse: str) -> Beside:
-        """The nurse's days away that concern the days beside them, if these are kept, and her older row."""
+        """The nurse's days away that concern the days beside them, if these are kept, and her older
+        row."""
         training, free = (
             frozenset(day for who, day in days if who == nurse) for days in self.beside[:2]
         )
@@ -214,7 +231,8 @@ class Plan:
 
     def _above(self, nurse: str, kind: str) -> int:
         """How much the history has above a total of the nurse's contract; 0 or less: nothing."""
-        contract, past = self.scenario.contract_of(nurse), self.history.nurses[nurse]
+        contract = self.scenario.contract_of(nurse)
+        past = self.history.nurses[nurse]
         above = {
             SHIFTS: past.assignments - contract.assignments.maximum,
             WEEKENDS: past.weekends - contract.max_weekends,
@@ -256,7 +274,8 @@ class Plan:
         return found
 
     def wishes(self, nurse: str, requests: Iterable[Request]) -> Dict[int, List[int]]:
-        """What requests, absences and held rows make of each choice of a nurse, in thousandths, on the days that have any."""
+        """What requests, absences and held rows make of each choice of a nurse, in thousandths, on
+        the days that have any."""
         shifts = {shift: number for number, shift in enumerate(self.scenario.shift_types, 1)}
         skills = self.scenario.nurses[nurse].skills
         found: Dict[int, List[int]] = {}
@@ -276,9 +295,13 @@ class Plan:
                 )
                 costs[choice] = NEVER if self.keeping.absence == NEVER else costs[choice] + more
             rows = self.held.get((nurse, day))
-            if rows:
+            if rows is not None:
                 costs = found.setdefault(day, [0] * (len(shifts) + 1))
-                kept = shifts[rows[0].shift] if len(rows) == 1 and rows[0].skill in skills else -1
+                kept = 0
+                if rows:
+                    kept = (
+                        shifts[rows[0].shift] if len(rows) == 1 and rows[0].skill in skills else -1
+                    )
                 found[day] = [
                     cost if choice == kept else NEVER for choice, cost in enumerate(costs)
                 ]

@@ -1,5 +1,5 @@
-"""Prices without a linear program: the price of a place rises while too few nurses are there in their cheapest rows, and falls while there
-are too many."""
+"""Prices without a linear program: the price of a place rises while too few nurses are there in
+their cheapest rows, and falls while there are too many."""
 
 import numpy
 from typing import Any, List, NamedTuple, Optional, Tuple
@@ -10,8 +10,9 @@ from .row_graph import Check
 
 
 class Steps(NamedTuple):
-    """The number of rounds; by how much a price rises in the first round and in the last one, in thousandths, while all nurses of a place
-    are missing; and the share of a round in the number of missing nurses that counts."""
+    """The number of rounds; by how much a price rises in the first round and in the last one, in
+    thousandths, while all nurses of a place are missing; and the share of a round in the number of
+    missing nurses that counts."""
 
     rounds: int
     first: float
@@ -19,16 +20,16 @@ class Steps(NamedTuple):
     share: float
 
 
-# From nothing, in a few weeks and in more; and from prices that were good before some weeks of nurses were fixed.
-FEW, MANY, AGAIN = (
-    Steps(50, 10.0 * POINT, 0.1 * POINT, 0.3),
-    Steps(150, 10.0 * POINT, 0.05 * POINT, 0.1),
-    Steps(12, 3.0 * POINT, 0.3 * POINT, 0.2),
-)
+# From nothing, in a few weeks and in more; and from prices that were good before some weeks of
+# nurses were fixed.
+FEW = Steps(50, 10.0 * POINT, 0.1 * POINT, 0.3)
+MANY = Steps(150, 10.0 * POINT, 0.05 * POINT, 0.1)
+AGAIN = Steps(12, 3.0 * POINT, 0.3 * POINT, 0.2)
 
 
 class Approached(NamedTuple):
-    """The prices of all rounds that prove the most, what they prove, and the cheapest rows of all nurses in each round."""
+    """The prices of all rounds that prove the most, what they prove, and the cheapest rows of all
+    nurses in each round."""
 
     prices: Prices
     value: Thousandths
@@ -39,14 +40,18 @@ def approach(
     pricing: Pricing, steps: Steps, check: Check, begin: Optional[Prices] = None
 ) -> Approached:
     """What the rounds come to, from these prices."""
-    crews, missing_cost = pricing.crews, pricing.plan.missing_cost * POINT
-    minimum, optimal = numpy.array(crews.minimum), numpy.array(crews.optimal)
+    crews = pricing.crews
+    missing_cost = pricing.plan.missing_cost * POINT
+    minimum = numpy.array(crews.minimum)
+    optimal = numpy.array(crews.optimal)
     prices = (
         numpy.full(len(optimal), missing_cost / 2)
         if begin is None
         else numpy.array(begin, dtype=float)
     )
-    missing, best, rounds = numpy.zeros(len(optimal)), ([0] * len(optimal), -numpy.inf), []
+    missing = numpy.zeros(len(optimal))
+    best = ([0] * len(optimal), -numpy.inf)
+    rounds = []
     for number in range(steps.rounds):
         check()
         whole = numpy.rint(prices).astype(numpy.int64).tolist()
@@ -63,8 +68,10 @@ def approach(
 
 
 def priced(pricing: Pricing, prices: List[int]) -> Tuple[int, Any, Any]:
-    """What no roster costs less than by these prices, how many nurses are at each place in their cheapest rows, and these rows."""
-    crews, everyone = pricing.crews, range(len(pricing.plan.nurses))
+    """What no roster costs less than by these prices, how many nurses are at each place in their
+    cheapest rows, and these rows."""
+    crews = pricing.crews
+    everyone = range(len(pricing.plan.nurses))
     values, rows = pricing.least(everyone, crews.gains(prices))
     # A nurse who counts nowhere is at a place after the last one.
     places = [

@@ -1,4 +1,5 @@
-"""Rows and bounds at prices: what nurses of places earn, each nurse's cheapest row, and what no roster can cost less than."""
+"""Rows and bounds at prices: what nurses of places earn, each nurse's cheapest row, and what no
+roster can cost less than."""
 
 import copy
 import numpy
@@ -20,7 +21,8 @@ NurseWeek = bytes
 Prices = List[int]
 # The price of a nurse of each crew, in thousandths: a list or an array.
 Gains = Any
-# What the runs of a nurse depend on beside her past: her contract, what a day of work above its maximum costs more, and her days away.
+# What the runs of a nurse depend on beside her past: her contract, what a day of work above its
+# maximum costs more, and her days away.
 _Kind = Tuple[str, int, Beside]
 
 
@@ -32,7 +34,8 @@ class Priced(NamedTuple):
 
 
 class Crews:
-    """The places of a plan, and its crews: the places of a day and shift type for which a nurse can count.
+    """The places of a plan, and its crews: the places of a day and shift type for which a nurse can
+    count.
 
     `of` has the crew of each nurse, day and choice; crew 0 counts nowhere.
     """
@@ -96,15 +99,18 @@ class Crews:
 
 
 class Pricing:
-    """The nurses of a plan, with the graphs of their rows; nurses who differ in nothing else share a graph.
+    """The nurses of a plan, with the graphs of their rows; nurses who differ in nothing else share
+    a graph.
 
-    `check` is called while the graphs are built, and may raise an exception to end that. `shift_run` is the weight of a charge of a run of
-    a shift type.
+    `check` is called while the graphs are built, and may raise an exception to end that.
+    `shift_run` is the weight of a charge of a run of a shift type.
     """
 
     def __init__(self, plan: Plan, crews: Crews, check: Check, shift_run: int = SHIFT_RUN) -> None:
-        self.plan, self.crews = plan, crews
-        scenario, pasts = plan.scenario, plan.history.nurses
+        self.plan = plan
+        self.crews = crews
+        scenario = plan.scenario
+        pasts = plan.history.nurses
         types = tuple(scenario.shift_types.values())
         runs: Dict[_Kind, Runs] = {}
         kinds: Dict[Tuple[_Kind, Totals], List[int]] = {}
@@ -132,8 +138,10 @@ class Pricing:
         requests = plan.requests()
         self.wishes = [plan.wishes(nurse, requests.get(nurse, ())) for nurse in plan.nurses]
         # The days on which rows may differ from these, if there are some.
-        self._days, self._rows = range(plan.days), [b""] * 0
-        # The nurses on these days, from their first pricing on: choices that are kept do not change them.
+        self._days = range(plan.days)
+        self._rows = [b""] * 0
+        # The nurses on these days, from their first pricing on: choices that are kept do not change
+        # them.
         self._members: List[Member] = []
         self._batch: Optional[_Batch] = None
 
@@ -142,26 +150,26 @@ class Pricing:
         part = object.__new__(Pricing)
         index = {nurse: number for number, nurse in enumerate(self.plan.nurses)}
         numbers = [index[nurse] for nurse in plan.nurses]
-        part.plan, part.crews = plan, Crews(plan)
-        part.graphs, part.starts = [self.graphs[number] for number in numbers], [
-            self.starts[number] for number in numbers
-        ]
-        part.base, part.wishes = [self.base[number] for number in numbers], [
-            self.wishes[number] for number in numbers
-        ]
-        part._days, part._rows, part._members, part._batch = self._days, [b""] * 0, [], None
+        part.plan = plan
+        part.crews = Crews(plan)
+        part.graphs = [self.graphs[number] for number in numbers]
+        part.starts = [self.starts[number] for number in numbers]
+        part.base = [self.base[number] for number in numbers]
+        part.wishes = [self.wishes[number] for number in numbers]
+        part._days = self._days
+        part._rows = [b""] * 0
+        part._members = []
+        part._batch = None
         return part
 
     def on_days(self, days: range, rows: Sequence[NurseWeek]) -> "Pricing":
         """The same for rows that are the given ones, except on these days."""
         part = copy.copy(self)
-        part.wishes, part._days, part._rows, part._members, part._batch = (
-            [],
-            days,
-            list(rows),
-            [],
-            None,
-        )
+        part.wishes = []
+        part._days = days
+        part._rows = list(rows)
+        part._members = []
+        part._batch = None
         others = [day for day in range(self.plan.days) if day not in days]
         for nurse, row in enumerate(rows):
             part.wishes.append(
@@ -172,7 +180,8 @@ class Pricing:
     def keeping(self, kept: Iterable[Tuple[int, range, Sequence[int]]]) -> "Pricing":
         """The same for rows that have these choices of nurses on these days."""
         part = copy.copy(self)
-        part.wishes, part._batch = list(self.wishes), None
+        part.wishes = list(self.wishes)
+        part._batch = None
         for nurse, days, choices in kept:
             only = {day: self._only(nurse, day, choice) for day, choice in zip(days, choices)}
             part.wishes[nurse] = {**part.wishes[nurse], **only}
@@ -196,7 +205,8 @@ class Pricing:
         ]
 
     def least(self, nurses: Sequence[int], gains: Gains) -> Tuple[Any, Any]:
-        """What the cheapest row of each of these nurses costs less what it earns, and its choices, as arrays."""
+        """What the cheapest row of each of these nurses costs less what it earns, and its choices,
+        as arrays."""
         if self._batch is None:
             self._members += (
                 [] if self._members else map(self._member, range(len(self.plan.nurses)))
@@ -214,7 +224,10 @@ class Pricing:
 
     def _member(self, nurse: int) -> Member:
         """A nurse on the days on which her row may differ from the one that she keeps."""
-        graph, start, rest, days = self.graphs[nurse], self.starts[nurse], None, self._days
+        graph = self.graphs[nurse]
+        start = self.starts[nurse]
+        rest = None
+        days = self._days
         if self._rows:
             start, _ = graph.walked(start, self._rows[nurse][: days.start])
             rest = (
@@ -243,13 +256,17 @@ class Pricing:
 
 
 class _Batch:
-    """The nurses of a pricing together, on the days on which their rows may differ from those that they keep, if they keep any."""
+    """The nurses of a pricing together, on the days on which their rows may differ from those that
+    they keep, if they keep any."""
 
     def __init__(
         self, pricing: Pricing, days: range, rows: Sequence[NurseWeek], members: Sequence[Member]
     ) -> None:
-        self._days, self._crews, self._wishes = days, pricing.crews.table, pricing.wish_table()
-        nurses, every = len(members), range(self._crews.shape[1])
+        self._days = days
+        self._crews = pricing.crews.table
+        self._wishes = pricing.wish_table()
+        nurses = len(members)
+        every = range(self._crews.shape[1])
         kept = list(rows) or [bytes(len(every))] * nurses
         self._rows = numpy.frombuffer(b"".join(kept), dtype=numpy.uint8).reshape(nurses, -1)
         choices = (
@@ -258,17 +275,19 @@ class _Batch:
             self._rows[:, others],
         )
         # The crews of each nurse on the other days, and what she pays there.
-        self._kept, self._paid = self._crews[choices], numpy.array(pricing.base) + self._wishes[
-            choices
-        ].sum(axis=1)
+        self._kept = self._crews[choices]
+        self._paid = numpy.array(pricing.base) + self._wishes[choices].sum(axis=1)
         before = zip(pricing.graphs, pricing.starts, kept)
         self._paid += [graph.walked(start, row[: days.start])[1] for graph, start, row in before]
         self._together = priced_together(members, days)
 
     def least(self, nurses: Sequence[int], gains: Gains) -> Tuple[Any, Any]:
-        """What the cheapest row of each of these nurses costs less what it earns, and its choices."""
-        wanted, gained = list(nurses), numpy.asarray(gains, dtype=numpy.int64)
-        rows, pay = self._rows[wanted], self._wishes[wanted] - gained[self._crews[wanted]]
+        """What the cheapest row of each of these nurses costs less what it earns, and its
+        choices."""
+        wanted = list(nurses)
+        gained = numpy.asarray(gains, dtype=numpy.int64)
+        rows = self._rows[wanted]
+        pay = self._wishes[wanted] - gained[self._crews[wanted]]
         least, rows[:, self._days.start : self._days.stop] = self._together.cheapest(pay, wanted)
         return least + self._paid[wanted] - gained[self._kept[wanted]].sum(axis=1), rows
 

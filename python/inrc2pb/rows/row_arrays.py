@@ -10,12 +10,14 @@ _MULTIPLIER = 6364136223846793005
 
 
 class Arrays:
-    """The days of a graph as arrays: by choice and node the costs and the nodes that are reached, and by node of the next day the choice
-    that reaches it. `runs` has the charges of shift runs by choice and node, if the costs are without them.
+    """The days of a graph as arrays: by choice and node the costs and the nodes that are reached,
+    and by node of the next day the choice that reaches it. `runs` has the charges of shift runs by
+    choice and node, if the costs are without them.
     """
 
     def __init__(self, days: Sequence[Tuple[Any, Any, Any]], runs: Sequence[Any] = ()) -> None:
-        self.days, self.runs = list(days), list(runs)
+        self.days = list(days)
+        self.runs = list(runs)
         # What a compiled library reads.
         self.compiled: Any = None
         # The number of nodes before each day, and at the end.
@@ -41,7 +43,8 @@ class Arrays:
 
 
 class Member(NamedTuple):
-    """A nurse: her number, her graph, the node at which her days begin, and what each node costs in which they end, if any does."""
+    """A nurse: her number, her graph, the node at which her days begin, and what each node costs in
+    which they end, if any does."""
 
     nurse: int
     arrays: Arrays
@@ -50,7 +53,8 @@ class Member(NamedTuple):
 
 
 class Blocks:
-    """Nurses who are priced by NumPy on these days, those of one graph together, with a column of values each."""
+    """Nurses who are priced by NumPy on these days, those of one graph together, with a column of
+    values each."""
 
     def __init__(self, members: Sequence[Member], days: range) -> None:
         self._days = days
@@ -59,13 +63,12 @@ class Blocks:
             self._of_graphs.setdefault(id(member.arrays), []).append(member)
 
     def cheapest(self, pay: Any, nurses: Sequence[int], run_cost: int = 0) -> Tuple[Any, Any]:
-        """The minimum cost of a row of each of these nurses, and the first row that has it, on these days. `pay` has what a choice costs
-        beside its own costs, by place in `nurses`, day and choice, and `run_cost` is the cost of a charge of a shift run that is counted
-        apart."""
+        """The minimum cost of a row of each of these nurses, and the first row that has it, on
+        these days. `pay` has what a choice costs beside its own costs, by place in `nurses`, day
+        and choice, and `run_cost` is the cost of a charge of a shift run that is counted apart."""
         places = {nurse: place for place, nurse in enumerate(nurses)}
-        costs, rows = numpy.empty(len(places), dtype=numpy.int64), numpy.empty(
-            (len(places), len(self._days)), dtype=numpy.uint8
-        )
+        costs = numpy.empty(len(places), dtype=numpy.int64)
+        rows = numpy.empty((len(places), len(self._days)), dtype=numpy.uint8)
         for members in self._of_graphs.values():
             wanted = [member for member in members if member.nurse in places]
             if wanted:
@@ -75,11 +78,13 @@ class Blocks:
 
     def _of_graph(self, members: Sequence[Member], pay: Any, run_cost: int) -> Tuple[Any, Any]:
         """The same of nurses of one graph."""
-        arrays, columns = members[0].arrays, numpy.arange(len(members))
+        arrays = members[0].arrays
+        columns = numpy.arange(len(members))
         minimum = numpy.zeros((arrays.nodes[self._days.stop], len(members)), dtype=numpy.int64)
         if members[0].rest is not None:
             minimum = numpy.stack([member.rest for member in members], axis=1)
-        costs, reached = {day: arrays.with_runs(day, run_cost) for day in self._days}, {}
+        costs = {day: arrays.with_runs(day, run_cost) for day in self._days}
+        reached = {}
         for day in reversed(self._days):
             reached[day] = minimum + pay[:, day].T.take(arrays.days[day][2], axis=0)
             minimum = _least(reached[day], arrays.days[day][1], costs[day])
@@ -101,20 +106,24 @@ def _least(reached_by: Any, heads: Any, costs: Any) -> Any:
 
 
 def merged(days: List[Tuple[Any, Any, Any]], check: Callable[[], None]) -> Any:
-    """Makes one node of all that have the same choices, costs and futures. Returns the class of each first node."""
+    """Makes one node of all that have the same choices, costs and futures. Returns the class of
+    each first node."""
     classes, kept = _numbered(days[-1][2][None, :])
     for day in reversed(range(len(days))):
         check()
         costs, heads, entered = days[day]
-        heads, entered = classes[heads], entered[kept]
+        heads = classes[heads]
+        entered = entered[kept]
         before = days[day - 1][2] if day else numpy.arange(costs.shape[1])
         classes, kept = _numbered(numpy.concatenate([before[None, :], costs, heads]))
-        days[day] = costs[:, kept], heads[:, kept], entered
+        nodes = heads.take(kept, axis=1).astype(numpy.int32)
+        days[day] = costs.take(kept, axis=1), nodes, entered
     return classes
 
 
 def _numbered(rows: Any) -> Tuple[Any, Any]:
-    """The number of each column of an array, by which equal columns have one number, and the first column of each number."""
+    """The number of each column of an array, by which equal columns have one number, and the first
+    column of each number."""
     hashes = numpy.zeros(rows.shape[1], dtype=numpy.uint64)
     for number, row in enumerate(rows, 1):
         hashes += row.astype(numpy.uint64) * numpy.uint64(pow(_MULTIPLIER, number, 1 << 64))

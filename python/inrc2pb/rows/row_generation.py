@@ -1,6 +1,8 @@
-"""The generation of rows: each nurse's whole week, or whole period, is one column of a linear program.
+"""The generation of rows: each nurse's whole week, or whole period, is one column of a linear
+program.
 
-The program's prices of places find better rows, until none is left; the same prices prove a lower bound.
+The program's prices of places find better rows, until none is left; the same prices prove a lower
+bound.
 """
 
 import math
@@ -13,18 +15,16 @@ from .plan import POINT, STEP, Points, Thousandths
 from .price_rounds import FEW, MANY, approach
 from .pricing import Priced, Prices, Pricing, NurseWeek, in_steps
 from ..week.records import Place
-from .row_program import MOST_BELOW, RowProgram, Solved
+from .row_program import EXACT, MOST_BELOW, RowProgram, Solved
 
 # The rounds of the first prices with whose rows the linear program begins.
 BEGINNING = 10
-# With more weeks than this prices and dives take long.
-FEW_WEEKS = 4
-# The share of the best prices in those that are tried next, and in a long period, in which a solution of the linear program takes longer.
-SMOOTHING, LONG_SMOOTHING = 0.4, 0.7
+# The share of the best prices in those that are tried next, and in a long period, in which a
+# solution of the linear program takes longer.
+SMOOTHING = 0.4
+LONG_SMOOTHING = 0.7
 # A row is worth a column if it costs less than the known ones by more than this many thousandths.
 WORTH = 1
-# Numbers that differ by no more than this are equal in a solution.
-EXACT = 1e-6
 
 
 class NoRow(Exception):
@@ -36,13 +36,16 @@ class NoRow(Exception):
 
 
 class RowGeneration:
-    """The generation of rows for a plan, and of prices. `heard` is called if the bound rises, and when it is final."""
+    """The generation of rows for a plan, and of prices. `heard` is called if the bound rises, and
+    when it is final."""
 
     def __init__(
         self, pricing: Pricing, solver: Optional[LinearSolver], heard: Callable[[], None]
     ) -> None:
-        self.pricing, self.plan = pricing, pricing.plan
-        self._solver, self._heard = solver, heard
+        self.pricing = pricing
+        self.plan = pricing.plan
+        self._solver = solver
+        self._heard = heard
         self.program = RowProgram(self.plan, pricing.crews, self.linear_program())
         self.prices: Prices = [0] * len(pricing.crews.places)
         # No roster costs less, in thousandths.
@@ -84,7 +87,8 @@ class RowGeneration:
 
     def _priced(self, prices: Prices, nurses: Sequence[int], clock: Clock) -> Dict[int, Priced]:
         """The cheapest row of each of these nurses at these prices."""
-        gains, found = self.pricing.crews.gains(prices), {}
+        gains = self.pricing.crews.gains(prices)
+        found = {}
         clock.check()
         for nurse, priced in zip(nurses, self.pricing.cheapest_of(nurses, gains)):
             if priced is None:
@@ -95,14 +99,14 @@ class RowGeneration:
     def _raise_bound(self, prices: Prices, found: Dict[int, Priced]) -> None:
         bound = self._proved(prices, found)
         if self.bound is None or bound > self.bound:
-            self.bound, self.prices = Thousandths(bound), prices
+            self.bound = Thousandths(bound)
+            self.prices = prices
             self._heard()
 
     def approach(self, clock: Clock) -> None:
-        """Begins with prices that are found without the linear program, and with the rows of the last rounds on the way to them."""
-        found = approach(
-            self.pricing, MANY if len(self.plan.weeks) > FEW_WEEKS else FEW, clock.check
-        )
+        """Begins with prices that are found without the linear program, and with the rows of the
+        last rounds on the way to them."""
+        found = approach(self.pricing, MANY if self.plan.is_long else FEW, clock.check)
         self.prices = found.prices
         self._add_rounds(found.rounds[-BEGINNING:])
 
@@ -112,13 +116,19 @@ class RowGeneration:
         ):
             self.add_row(nurse, row)
 
-    def generate(self, clock: Clock) -> None:
-        """Adds rows until none is missing, or the bound is as good as the linear program's value."""
+    def prove(self, clock: Clock) -> None:
+        """Takes the bound of the prices, with the rows that prove it."""
         found = self._priced(self.prices, range(len(self.plan.nurses)), clock)
         self._raise_bound(self.prices, found)
         for nurse, priced in found.items():
             self.add_row(nurse, priced.row)
-        share, smoothing = 0.0, LONG_SMOOTHING if len(self.plan.weeks) > FEW_WEEKS else SMOOTHING
+
+    def generate(self, clock: Clock) -> None:
+        """Adds rows until none is missing, or the bound is as good as the linear program's
+        value."""
+        self.prove(clock)
+        share = 0.0
+        smoothing = LONG_SMOOTHING if self.plan.is_long else SMOOTHING
         while not self.complete:
             now = self.solved = self.program.solve(clock)
             tried, found, new = self._round(now, self.prices, share, clock)
@@ -135,8 +145,9 @@ class RowGeneration:
     def _round(
         self, now: Solved, best: Prices, share: float, clock: Clock
     ) -> Tuple[Prices, Dict[int, Priced], int]:
-        """Adds the cheapest rows at prices between those of a solution and the best ones, which have this share. Returns these prices, the
-        rows, and how many of them are new and make the solution better."""
+        """Adds the cheapest rows at prices between those of a solution and the best ones, which
+        have this share. Returns these prices, the rows, and how many of them are new and make the
+        solution better."""
         tried = (
             [round(share * one + (1 - share) * price) for one, price in zip(best, now.prices)]
             if share
@@ -150,7 +161,8 @@ class RowGeneration:
         )
 
     def _proved(self, prices: Prices, found: Dict[int, Priced]) -> int:
-        """What no roster costs less than by these prices and each nurse's cheapest row, in thousandths."""
+        """What no roster costs less than by these prices and each nurse's cheapest row, in
+        thousandths."""
         return sum(priced.value for priced in found.values()) + self.pricing.places_cost(prices)
 
     def _better(self, found: Dict[int, Priced], tried: Prices, now: Solved) -> List[int]:

@@ -1,7 +1,8 @@
 """The rows of nurses with one contract and equal totals, as the paths through one graph.
 
-A row is the nurse's choice on each day. The nodes of a day are what a choice may leave to the days after it: the runs that
-are open, and what more assignments and weekends would cost. Nodes with the same future are one node.
+A row is the nurse's choice on each day. The nodes of a day are what a choice may leave to the days
+after it: the runs that are open, and what more assignments and weekends would cost. Nodes with the
+same future are one node.
 """
 
 import numpy
@@ -31,7 +32,8 @@ Check = Callable[[], None]
 
 
 class Totals(NamedTuple):
-    """What each further assignment and each further weekend of a nurse costs, in points, one after another."""
+    """What each further assignment and each further weekend of a nurse costs, in points, one after
+    another."""
 
     works: Tuple[int, ...]
     weekends: Tuple[int, ...]
@@ -39,7 +41,8 @@ class Totals(NamedTuple):
     @staticmethod
     def of(plan: Plan, contract: Contract, past: NurseHistory) -> "Totals":
         """The totals of a nurse in the days of the plan."""
-        (minimum, maximum), most = contract.assignments, contract.max_weekends
+        (minimum, maximum) = contract.assignments
+        most = contract.max_weekends
         counts = plan.charging and (plan.ends or plan.early)
         totals = range(past.assignments, past.assignments + plan.days)
         works = [
@@ -61,7 +64,8 @@ class Totals(NamedTuple):
         """What a nurse without any assignment in the plan pays for her totals, in points."""
         if not (plan.charging and plan.ends):
             return 0
-        (minimum, maximum), most = contract.assignments, contract.max_weekends
+        (minimum, maximum) = contract.assignments
+        most = contract.max_weekends
         excess = ASSIGNMENT_TOTAL * max(0, past.assignments - maximum) + WEEKEND_TOTAL * max(
             0, past.weekends - most
         )
@@ -69,7 +73,8 @@ class Totals(NamedTuple):
 
 
 def _kept(plan: Plan, costs: Sequence[int], most: Optional[int], left: int) -> Tuple[int, ...]:
-    """What each further one costs, if after those that are left, and `most` more, none is allowed, or each costs more."""
+    """What each further one costs, if after those that are left, and `most` more, none is allowed,
+    or each costs more."""
     if most is None:
         return tuple(costs)
     return tuple(
@@ -85,28 +90,37 @@ def _first_with(futures: Sequence[Tuple[int, ...]]) -> List[int]:
 
 
 class _Day(NamedTuple):
-    """A day of a graph: by choice and node the cost in thousandths, and the node of the next day that is reached."""
+    """A day of a graph: by choice and node the cost in thousandths, and the node of the next day
+    that is reached. These are views of its arrays, since lists would take three times the memory.
+    """
 
-    costs: List[List[int]]
-    heads: List[List[int]]
+    costs: List[memoryview]
+    heads: List[memoryview]
 
 
 class Graph:
-    """The graph of the nurses with one contract and the same totals. `starts` has the node of each state before the first day."""
+    """The graph of the nurses with one contract and the same totals. `starts` has the node of each
+    state before the first day."""
 
     def __init__(
         self, runs: Runs, totals: Totals, states: Iterable[RunState], check: Check
     ) -> None:
-        self._runs, self._totals, self._check = runs, totals, check
+        self._runs = runs
+        self._totals = totals
+        self._check = check
         firsts = list(dict.fromkeys(states))
         days = list(self._reached(firsts))
         classes = merged(days, self._check)
         self.arrays = Arrays(days)
-        self.days = [_Day(costs.tolist(), heads.tolist()) for costs, heads, _ in days]
+        self.days = [
+            _Day(list(map(memoryview, costs)), list(map(memoryview, heads)))
+            for costs, heads, _ in days
+        ]
         self.starts = {state: int(classes[index]) for index, state in enumerate(firsts)}
 
     def _same(self, day: int) -> Tuple[List[int], List[int]]:
-        """For each number of assignments, and of weekends, after a day the least one from which more cost as much."""
+        """For each number of assignments, and of weekends, after a day the least one from which
+        more cost as much."""
         works, weekends = self._totals
         left = self._runs.days - day - 1
         weeks = -(-left // WEEK_DAYS)
@@ -116,14 +130,14 @@ class Graph:
         )
 
     def _reached(self, states: List[RunState]) -> Iterator[Tuple[Any, Any, Any]]:
-        """All nodes that are reached, day by day: the costs, the nodes that are reached, and the choice that reaches them."""
-        runs, works_on = self._runs, (numpy.arange(len(self._runs.shifts)) > 0)[:, None]
+        """All nodes that are reached, day by day: the costs, the nodes that are reached, and the
+        choice that reaches them."""
+        runs = self._runs
+        works_on = (numpy.arange(len(self._runs.shifts)) > 0)[:, None]
         works, weekends = (numpy.array(costs, dtype=numpy.int64) for costs in self._totals)
-        state, work, rest = (
-            numpy.arange(len(states)),
-            numpy.zeros(len(states), dtype=int),
-            numpy.zeros(len(states), dtype=int),
-        )
+        state = numpy.arange(len(states))
+        work = numpy.zeros(len(states), dtype=int)
+        rest = numpy.zeros(len(states), dtype=int)
         before = numpy.array([now.choice for now in states])
         for day in range(runs.days):
             self._check()
@@ -146,16 +160,17 @@ class Graph:
             )
             there = numpy.zeros(shape, dtype=bool).ravel()
             there[keys[~never]] = True
-            heads = numpy.where(never, 0, (numpy.cumsum(there) - 1)[keys])
+            heads = numpy.where(never, 0, (numpy.cumsum(there, dtype=numpy.int32) - 1)[keys])
             states = list(number)
             state, work, rest = numpy.unravel_index(numpy.flatnonzero(there), shape)
             before = numpy.array([now.choice for now in states])[state]
             yield numpy.where(never, NEVER, POINT * costs), heads, before
 
     def walked(self, start: int, row: Sequence[int]) -> Tuple[int, int]:
-        """The node at which these first choices of a row end, and what they cost without any pay; NEVER or more if a hard rule forbids
-        them."""
-        node, total = start, 0
+        """The node at which these first choices of a row end, and what they cost without any pay;
+        NEVER or more if a hard rule forbids them."""
+        node = start
+        total = 0
         for day, choice in zip(self.days, row):
             total += day.costs[choice][node]
             node = day.heads[choice][node]

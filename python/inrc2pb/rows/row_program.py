@@ -1,4 +1,5 @@
-"""The program that chooses one known row for each nurse: a linear program that stays in its solver, and the text of an integer one."""
+"""The program that chooses one known row for each nurse: a linear program that stays in its solver,
+and the text of an integer one."""
 
 import copy
 import math
@@ -11,10 +12,14 @@ from .plan import POINT, Plan, Points
 from .pricing import MAX_PRICE, Crews, NurseWeek, Prices
 
 # The cost of a nurse below a minimum at first, in points, and the maximum cost.
-BELOW_MINIMUM, MOST_BELOW = 3000, 900_000
-# A share is none below this.
-_TINY = 1e-9
-_FREE, _OUT = (0.0, math.inf), (0.0, 0.0)
+BELOW_MINIMUM = 3000
+MOST_BELOW = 900_000
+# Numbers that differ by no more than this are equal in a solution, and a share this near to a whole
+# number is one.
+EXACT = 1e-6
+WHOLE = 1e-3
+_FREE = (0.0, math.inf)
+_OUT = (0.0, 0.0)
 
 
 class RowColumn(NamedTuple):
@@ -27,8 +32,9 @@ class RowColumn(NamedTuple):
 
 
 class Solved(NamedTuple):
-    """A solution of the linear program: its value in points, whole prices of places and of nurses in thousandths, the share of each
-    column that it takes, and how many nurses are missing below minimums."""
+    """A solution of the linear program: its value in points, whole prices of places and of nurses
+    in thousandths, the share of each column that it takes, and how many nurses are missing below
+    minimums."""
 
     value: float
     prices: Prices
@@ -38,13 +44,16 @@ class Solved(NamedTuple):
 
 
 class RowProgram:
-    """The known rows of all nurses, numbered as columns of a linear program. A row of that program is a nurse, a place, or a crew of
-    several places; its first columns are the nurses who are missing at each place, above and below its minimum.
+    """The known rows of all nurses, numbered as columns of a linear program. A row of that program
+    is a nurse, a place, or a crew of several places; its first columns are the nurses who are
+    missing at each place, above and below its minimum.
     """
 
     def __init__(self, plan: Plan, crews: Crews, program: LinearProgram) -> None:
         self.columns: List[RowColumn] = []
-        self._crews, self._nurses, self._program = crews, len(plan.nurses), program
+        self._crews = crews
+        self._nurses = len(plan.nurses)
+        self._program = program
         self.below = BELOW_MINIMUM if plan.charging else 1
         self._known: Set[Tuple[int, NurseWeek]] = set()
         # The columns that are shut.
@@ -89,7 +98,8 @@ class RowProgram:
         return True
 
     def _row_of(self, crew: int) -> Optional[int]:
-        """The row in which a crew counts: that of its place, or its own, by which it is at any of its places."""
+        """The row in which a crew counts: that of its place, or its own, by which it is at any of
+        its places."""
         places = self._crews.members[crew]
         if len(places) < 2:
             return self._nurses + places[0] if places else None
@@ -126,16 +136,16 @@ class RowProgram:
         """Whether more than a fifth of its columns are shut."""
         return len(self.columns) < 5 * len(self._shut)
 
-    def open_part(self, program: LinearProgram) -> "RowProgram":
-        """The same in this empty linear program, without columns that are shut. It begins at the basis of the last solution."""
-        out = {self.columns[column].number for column in self._shut}
+    def open_part(self, program: LinearProgram, without: Iterable[int] = ()) -> "RowProgram":
+        """The same in this empty linear program, without columns that are shut, and without these.
+        It begins at the basis of the last solution."""
+        out = {self.columns[column].number for column in (*self._shut, *without)}
         left = [number for number in range(self._program.columns) if number not in out]
-        numbers, part = {number: place for place, number in enumerate(left)}, copy.copy(self)
-        part._program, part._shut, part._links = (
-            self._program.part(left, program),
-            set(),
-            dict(self._links),
-        )
+        numbers = {number: place for place, number in enumerate(left)}
+        part = copy.copy(self)
+        part._program = self._program.part(left, program)
+        part._shut = set()
+        part._links = dict(self._links)
         part.columns = [
             column._replace(number=numbers[column.number])
             for column in self.columns
@@ -162,8 +172,8 @@ class RowProgram:
     # ---- solutions
 
     def solve(self, clock: Clock, how: str = PRIMAL) -> Solved:
-        """Solves the linear program from the basis of its last solution, by the primal or the dual simplex method. Prices that are no
-        prices are cut."""
+        """Solves the linear program from the basis of its last solution, by the primal or the dual
+        simplex method. Prices that are no prices are cut."""
         left = self.most_iterations - self.iterations
         if left < 1:
             raise TimeIsOver
@@ -182,34 +192,7 @@ class RowProgram:
         shares = {
             index: values[column.number]
             for index, column in enumerate(self.columns)
-            if values[column.number] > _TINY
+            if values[column.number] > EXACT
         }
         missing = sum(values[number] for number in self._below)
         return Solved(found.value, prices, nurses, shares, missing)
-
-    def text(self, use: Iterable[int]) -> str:
-        """The integer program over these columns: column N is vN."""
-        names = [f"x{number}" for number in range(self._program.columns)]
-        for column in self.columns:
-            names[column.number] = ""
-        for index in use:
-            names[self.columns[index].number] = f"v{index}"
-        return self._program.text(names, whole="v")
-
-    def chosen(self, names: Iterable[str]) -> Optional[List[int]]:
-        """The column of each nurse, by the names that an integer program took; None if a nurse has none or several."""
-        columns = {
-            self.columns[column].nurse: column
-            for column in map(self._column, (name for name in names if name[0] == "v"))
-        }
-        return (
-            [columns[nurse] for nurse in range(self._nurses)]
-            if len(columns) == self._nurses
-            else None
-        )
-
-    def _column(self, name: str) -> int:
-        number = name[1:]
-        if not (number.isdigit() and int(number) < len(self.columns)):
-            raise SolverFault(f"the answer has an unknown column {name[:40]}")
-        return int(number)

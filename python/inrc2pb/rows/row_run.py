@@ -4,7 +4,6 @@ import concurrent.futures
 import contextlib
 import random
 import threading
-import time
 from typing import Callable, Dict, List, Optional, TypeVar
 
 from ..judging.runs import NEVER
@@ -18,29 +17,32 @@ from .certificate import Certificate, Leaf
 from .descent import all_off
 from .plan import POINT, STEP, Plan, Points
 from .pricing import Crews, NurseWeek, Priced, Prices, Pricing
-from .row_generation import FEW_WEEKS, NoRow, RowGeneration
+from .row_generation import NoRow, RowGeneration
 from .row_parts import RowParts
 from .row_search import GIVEN, Known, Offer, RowSearch, WrongBound
 from .skills import staffed
 from .week_dives import WeekDives
-from .windows import Sweeps
+from .sweeps import Sweeps
 from .workers import workers
 
-# The shares of the time that is left: for new rows before a dive, for the dive, for one when no row is missing, and for an integer program
-# over the known rows.
-ROWS_SHARE, DIVE_SHARE, LAST_DIVE_SHARE, KNOWN_SHARE = 0.5, 0.5, 0.8, 0.1
+# The shares of the time that is left: for new rows, and for a dive after them, and for the last
+# dive, when no row is missing.
+STEP_SHARE = 0.5
+LAST_DIVE_SHARE = 0.8
 # The shares of the rows that further dives in a week fix at once.
 MORE_DIVES = (0.15, 0.3, 0.0, 0.15, 0.08, 0.15)
-# A tree of cases is worth its time if the gap, in thousandths, is at most the first number, or at most this part of the bound. The second
-# part is for a long period, in which plans get better for long.
-TREE_GAP, TREE_PART, LONG_TREE_PART = 4 * STEP * POINT, 0.15, 0.015
-# Seconds between two looks whether the gap is small.
-WAIT_SECONDS = 0.2
+# A tree of cases is worth its time if the gap, in thousandths, is at most the first number, or at
+# most this part of the bound. The second part is for a long period, in which plans get better for
+# long.
+TREE_GAP = 4 * STEP * POINT
+TREE_PART = 0.15
+LONG_TREE_PART = 0.015
 Found = TypeVar("Found")
 
 
 class WholeSearch(WeekDives):
-    """The search over all rows of a plan, whose best roster several threads may improve. It refutes a bound above its penalty."""
+    """The search over all rows of a plan, whose best roster several threads may improve. It refutes
+    a bound above its penalty."""
 
     def __init__(
         self,
@@ -74,9 +76,10 @@ class WholeSearch(WeekDives):
 
 
 class RowRun:
-    """A search over the rows of a plan. `start` has the rows to begin with, if any; `heard` is called if the bound rises, and when it is
-    final. The `seed` begins its random choices. Without `splits` no cases raise the bound of the prices. If it `is_quick`, it ends with the
-    first roster by the prices."""
+    """A search over the rows of a plan. `start` has the rows to begin with, if any; `heard` is
+    called if the bound rises, and when it is final. The `seed` begins its random choices. Without
+    `splits` no cases raise the bound of the prices. If it `is_quick`, it ends with the first roster
+    by the prices."""
 
     def __init__(
         self,
@@ -91,14 +94,14 @@ class RowRun:
         is_quick: bool = False,
     ) -> None:
         self.plan = plan
-        self._solver, self._clock, self._offer, self._heard, self._start = (
-            solver,
-            clock,
-            offer,
-            heard,
-            start,
-        )
-        self._seed, self._splits, self._is_quick = seed, splits, is_quick
+        self._solver = solver
+        self._clock = clock
+        self._offer = offer
+        self._heard = heard
+        self._start = start
+        self._seed = seed
+        self._splits = splits
+        self._is_quick = is_quick
         self.crews = Crews(plan)
         self.search: Optional[WholeSearch] = None
         self._tree: Optional[CaseTree] = None
@@ -139,7 +142,8 @@ class RowRun:
                 self._sweeps.end()
 
     def _run(self) -> None:
-        first, penalty = self._start or all_off(self.plan), None
+        first = self._start or all_off(self.plan)
+        penalty = None
         if self._start and not staffed(self.plan, self.crews, first).below:
             penalty = self._offer(first, GIVEN)
         pricing = Pricing(self.plan, self.crews, self._clock.check)
@@ -147,19 +151,20 @@ class RowRun:
             pricing, self._solver, self._clock, self._offer, self._heard
         )
         search.begin(first, penalty)
-        if self._solver is None:
-            return
-        if search.penalty is not None and len(self.plan.weeks) > FEW_WEEKS:
+        if self._solver and search.penalty is not None and self.plan.is_long:
             self._sweeps = Sweeps(search, self._solver.beside(1), self._clock)
         if self.plan.charging:
-            self._try(search.approach, ROWS_SHARE)
+            self._try(search.approach, STEP_SHARE)
+        if self._solver is None:
+            self._try(search.prove, STEP_SHARE)
+            return
         while not search.complete:
-            self._try(search.generate, ROWS_SHARE)
+            self._try(search.generate, STEP_SHARE)
             if search.complete and search.misses_minimums and self._ends_without_roster():
                 return
             if search.complete and self._is_period and search.penalty is not None:
                 break
-            rows = self._try(search.dive, LAST_DIVE_SHARE if search.complete else DIVE_SHARE)
+            rows = self._try(search.dive, LAST_DIVE_SHARE if search.complete else STEP_SHARE)
             if rows:
                 search.keep(rows, "fixing rows")
         if search.penalty is None or not self._is_quick:
@@ -175,11 +180,13 @@ class RowRun:
 
     @property
     def _is_period(self) -> bool:
-        """Whether there are several weeks. Dives take long then, and each ends elsewhere, so several are made at once."""
+        """Whether there are several weeks. Dives take long then, and each ends elsewhere, so
+        several are made at once."""
         return len(self.plan.weeks) > 1
 
     def _ends_without_roster(self) -> bool:
-        """Whether limits, or days beside days away, may be why minimums are missed, or prices prove that no roster keeps the minimums."""
+        """Whether limits, or days beside days away, may be why minimums are missed, or prices prove
+        that no roster keeps the minimums."""
         if self.plan.keeps_more and self.plan.keeping.limit == NEVER:
             return True
         plan = self.plan.hard_only()
@@ -196,10 +203,11 @@ class RowRun:
     def _close_gap(self, search: WholeSearch, solver: LinearSolver) -> None:
         """Looks for the best roster, with a tree of cases beside that."""
         if search.penalty is None:
-            self._choose_known(search, self._clock)
-        if search.penalty is None or search.is_proved:
+            self._dive_again(search, self._clock)
+        if search.penalty is None or search.is_proved or self._is_quick:
             return
-        clock, known = self._clock.part(self._clock.left()), search.known()
+        clock = self._clock.part(self._clock.left())
+        known = search.known()
         with concurrent.futures.ThreadPoolExecutor(1) as pool:
             tree = pool.submit(self._close_cases, search, known, solver, clock)
             try:
@@ -214,11 +222,10 @@ class RowRun:
                 tree.result()
 
     def _improve(self, search: WholeSearch, solver: LinearSolver, clock: Clock) -> None:
-        """Improves the best roster: in a week by more dives, which take less than the first one, and by an integer program over the known
-        rows; and then part by part."""
+        """Improves the best roster: in a week by more dives here, which take less than the first
+        one, and then on all processors."""
         if not self._is_period:
             self._dive_again(search, clock)
-            self._choose_known(search, clock)
         if self._sweeps:
             self._sweeps.end()
         if not search.is_proved:
@@ -233,40 +240,30 @@ class RowRun:
             if rows:
                 search.keep(rows, "fixing rows")
 
-    def _choose_known(self, search: WholeSearch, clock: Clock) -> None:
-        """Lets an integer program choose among the known rows."""
-        if not search.is_proved:
-            search.choose(
-                search.known_within(), clock.part(clock.left() * KNOWN_SHARE), "known rows"
-            )
-
     def _is_narrow(self, search: RowSearch) -> bool:
         """Whether the gap is small enough for a tree of cases."""
-        part = LONG_TREE_PART if len(self.plan.weeks) > FEW_WEEKS else TREE_PART
+        part = LONG_TREE_PART if self.plan.is_long else TREE_PART
         return search.bound is not None and search.gap() <= max(TREE_GAP, part * search.bound)
 
     def _close_cases(
         self, search: RowSearch, known: Known, solver: LinearSolver, clock: Clock
     ) -> None:
-        """Looks for cases that show that no roster costs less than the best one, and for better rosters, as soon as the gap is small. If
-        that ends the search, it ends all solvers."""
+        """Looks for cases that show that no roster costs less than the best one, and for better
+        rosters, as soon as the gap is small. If that ends the search, it ends all solvers."""
         if not self._splits:
             return
         with contextlib.suppress(SolverFault, TimeIsOver):
-            while not self._is_narrow(search):
-                clock.check()
-                time.sleep(WAIT_SECONDS)
+            clock.wait_until(lambda: self._is_narrow(search))
             self._run_tree(search, known, solver, clock)
-            while not self._is_proved(search):
-                clock.check()
-                time.sleep(WAIT_SECONDS)
+            clock.wait_until(lambda: self._is_proved(search))
             clock.stop()
             solver.end_all()
 
     def _run_tree(
         self, search: RowSearch, known: Known, solver: LinearSolver, clock: Clock
     ) -> None:
-        """The tree that goes on from a search. With several processors other processes search cases, too."""
+        """The tree that goes on from a search. With several processors other processes search
+        cases, too."""
         count = processors()
         own = CaseSearch.begin(known, search.pricing.crews, solver.beside(count), clock.check)
         others = workers(known, [solver.beside(count + number) for number in range(1, count)])

@@ -1,4 +1,5 @@
-"""The skills of rows: each shift of a roster gets the nurses' skills by matching, minimums first."""
+"""The skills of rows: each shift of a roster gets the nurses' skills by matching, minimums
+first."""
 
 from typing import Dict, Iterable, List, NamedTuple, Sequence, Tuple
 
@@ -8,7 +9,8 @@ from ..week.records import Cell
 
 
 class Staffed(NamedTuple):
-    """The rows of nurses with a skill for each shift; how many nurses are missing below minimums, and below optimal numbers beside them."""
+    """The rows of nurses with a skill for each shift; how many nurses are missing below minimums,
+    and below optimal numbers beside them."""
 
     cells: List[Cell]
     below: int
@@ -29,7 +31,8 @@ class _Shift:
                 self._able.setdefault(place, []).append(crew)
 
     def missing(self, place: int, wanted: int) -> int:
-        """Gives this number of nurses to a place, if there are so many. Returns how many are missing."""
+        """Gives this number of nurses to a place, if there are so many. Returns how many are
+        missing."""
         while wanted and self.fill(place):
             wanted -= 1
         return wanted
@@ -37,7 +40,8 @@ class _Shift:
     def fill(self, place: int) -> bool:
         """Gives one more nurse to a place; others may move, but no place loses one."""
         came: Dict[int, Tuple[int, int]] = {}
-        open_places, seen = [place], {place}
+        open_places = [place]
+        seen = {place}
         for target in open_places:
             for crew in self._able.get(target, ()):
                 if self.free[crew]:
@@ -59,11 +63,13 @@ class _Shift:
                 return
             mover, further = came[target]
             self.given[mover, target] -= 1
-            crew, target = mover, further
+            crew = mover
+            target = further
 
 
 def staffed(plan: Plan, crews: Crews, rows: Sequence[NurseWeek]) -> Staffed:
-    """The roster of these rows, with as few nurses missing as the skills allow: first below minimums, then below optimal numbers."""
+    """The roster of these rows, with as few nurses missing as the skills allow: first below
+    minimums, then below optimal numbers."""
     shifts: Dict[Tuple[int, int], Dict[int, List[int]]] = {}
     for nurse, row in enumerate(rows):
         for day, choice in enumerate(row):
@@ -79,7 +85,8 @@ def staffed(plan: Plan, crews: Crews, rows: Sequence[NurseWeek]) -> Staffed:
     below = missing = 0
     for key in dict.fromkeys([*shifts, *asked]):
         members = shifts.get(key, {})
-        shift, places = _Shift(crews, members), asked.get(key, [])
+        shift = _Shift(crews, members)
+        places = asked.get(key, [])
         below += sum(shift.missing(place, crews.minimum[place]) for place in places)
         missing += sum(
             shift.missing(place, crews.optimal[place] - crews.minimum[place]) for place in places

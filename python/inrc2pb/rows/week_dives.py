@@ -1,6 +1,7 @@
-"""Dives: the weeks of nurses are fixed a few at a time, those first that most shares of a solution have in common. A dive over a whole
-period fixes one week after another. A fixing that makes the solution much worse is undone, and half of it is fixed. A nurse still gets new
-rows with her fixed weeks.
+"""Dives: the weeks of nurses are fixed a few at a time, those first that most shares of a solution
+have in common. A dive over a whole period fixes one week after another. A fixing that makes the
+solution much worse is undone, and half of it is fixed. A nurse still gets new rows with her fixed
+weeks.
 """
 
 import collections
@@ -14,24 +15,33 @@ from ..week.records import WEEK_DAYS
 from .plan import POINT, STEP
 from .price_rounds import AGAIN, approach
 from .pricing import NurseWeek, Prices, Pricing
-from .row_generation import EXACT, SMOOTHING
-from .row_program import RowProgram, Solved
+from .row_generation import SMOOTHING
+from .row_program import EXACT, WHOLE, RowProgram, Solved
 from .row_search import RowSearch
 
-# The share of the open weeks that is fixed at once, if a dive has none of its own: at first, at least, and at most.
-FIRST_SHARE, LEAST_SHARE, MOST_SHARE = 0.06, 0.02, 0.5
-# A fixing of several weeks is undone if the value, in points, rises by more than the first number, with care by more than a step. If it
-# rises by less than the second one, more weeks are fixed at once.
-MOST_RISE, LITTLE_RISE = 6 * STEP, 1.5 * STEP
-# The most rounds of new rows between two fixings. They end sooner if the value of the program, in points, is so near to what prices prove.
-MOST_ROUNDS, NEAR = 40, STEP / 2
-# A plan with more places than this is large: a solution of its program takes longer than rounds of prices without it. So after each fixing
-# the rows of the last of such rounds come first, and the rounds of new rows end, too, if the last solutions made the value, in points,
-# fall by less than this.
-MANY_PLACES, KEPT_AGAIN, TAIL, LITTLE_FALL = 400, 4, 2, 2 * STEP
-# A week with a share above the first number is whole. A dive by chance multiplies each share by a number between the next two, and in a
-# period also by the last one if the best roster has the same choices.
-WHOLE, BY_CHANCE, GUIDED = 0.999, (0.8, 1.0), 2.5
+# The share of the open weeks that is fixed at once, if a dive has none of its own: at first, at
+# least, and at most.
+FIRST_SHARE = 0.06
+LEAST_SHARE = 0.02
+MOST_SHARE = 0.5
+# A fixing of several weeks is undone if the value, in points, rises by more than the first number.
+# If it rises by less than the second one, more weeks are fixed at once.
+MOST_RISE = 6 * STEP
+LITTLE_RISE = 1.5 * STEP
+# The most rounds of new rows between two fixings. They end sooner if the value of the program, in
+# points, is so near to what prices prove.
+MOST_ROUNDS = 40
+NEAR = STEP / 2
+# A plan with more places than this is large: a solution of its program takes longer than rounds of
+# prices without it. So after each fixing the rows of the last of such rounds come first, and the
+# rounds of new rows end, too, if the last solutions made the value, in points, fall by less than
+# this.
+MANY_PLACES = 400
+KEPT_AGAIN = 4
+TAIL = 2
+LITTLE_FALL = 2 * STEP
+# A dive by chance multiplies each share by a number between these.
+BY_CHANCE = (0.8, 1.0)
 
 
 class _Week(NamedTuple):
@@ -51,8 +61,9 @@ class _Week(NamedTuple):
 
 
 class _Fixing(NamedTuple):
-    """Weeks of nurses that are fixed at once. Those that have no other choices in the solution come first, and then `others` further ones,
-    in the order of their shares. The pricing is the one before the fixing, and `shut` has the columns that it shut.
+    """Weeks of nurses that are fixed at once. Those that have no other choices in the solution come
+    first, and then `others` further ones, in the order of their shares. The pricing is the one
+    before the fixing, and `shut` has the columns that it shut.
     """
 
     weeks: Dict[_Week, NurseWeek]
@@ -70,19 +81,19 @@ class WeekDives(RowSearch):
         share: float = 0.0,
         chance: Optional[random.Random] = None,
         in_order: bool = False,
-        care: int = 0,
     ) -> Optional[List[NurseWeek]]:
-        """Fixes at most this share of the open weeks of nurses at once, without one as many as the solutions allow, and by chance not only
-        those of the greatest shares; `in_order` only some of the first open weeks, as many as there are nurses. The first fixings, until so
-        many are undone, are made with `care`.
+        """Fixes at most this share of the open weeks of nurses at once, without one as many as the
+        solutions allow, and by chance not only those of the greatest shares; `in_order` only some
+        of the first open weeks, as many as there are nurses.
 
-        Returns a row of each nurse, None if they cannot be better than the best. At the end of the time the rows are those of the greatest
-        shares, made better one after another."""
-        pricing, program = self.pricing, self.program
+        Returns a row of each nurse, None if they cannot be better than the best. At the end of the
+        time the rows are those of the greatest shares, made better one after another."""
+        pricing = self.pricing
+        program = self.program
         # The rows of the greatest shares in the last solution.
         self._last = self._greatest(self.solved)
         try:
-            return self._dive(clock, share, chance, in_order, care)
+            return self._dive(clock, share, chance, in_order)
         except TimeIsOver:
             self.pricing = pricing
             self.clock.check()
@@ -99,34 +110,37 @@ class WeekDives(RowSearch):
 
     def _greatest(self, solved: Optional[Solved]) -> Dict[int, NurseWeek]:
         """The row of each nurse that has the greatest share in a solution."""
-        shares, columns = solved.shares if solved else {}, self.program.columns
+        shares = solved.shares if solved else {}
+        columns = self.program.columns
         return {
             columns[number].nurse: columns[number].row
             for number in sorted(shares, key=shares.__getitem__)
         }
 
     def _dive(
-        self, clock: Clock, most: float, chance: Optional[random.Random], in_order: bool, care: int
+        self, clock: Clock, most: float, chance: Optional[random.Random], in_order: bool
     ) -> Optional[List[NurseWeek]]:
-        whole, nurses, weeks = (
-            self.program,
-            range(len(self.plan.nurses)),
-            range(len(self.plan.weeks)),
-        )
+        whole = self.program
+        nurses = range(len(self.plan.nurses))
+        weeks = range(len(self.plan.weeks))
         left = [_Week(nurse, number) for number in weeks for nurse in nurses]
         fixed: Dict[_Week, NurseWeek] = {}
-        fixing, near, last = _Fixing({}, 0, self.pricing, []), None, -math.inf
+        fixing = _Fixing({}, 0, self.pricing, [])
+        near = None
+        last = -math.inf
         share = most or FIRST_SHARE
         while True:
-            rise = math.inf if fixing.others < 2 else STEP if care > 0 else MOST_RISE
+            rise = math.inf if fixing.others < 2 else MOST_RISE
             found = self._relaxed_with(near, last, last + rise, clock)
             if found is None:
-                fixing, share, care = self._halved(fixing), share / 2, care - 1
+                fixing = self._halved(fixing)
+                share = share / 2
                 continue
             now, near = found
             if self._is_no_better(now.value):
                 return None
-            share, last = _next_share(share, most, now.value - last), now.value
+            share = _next_share(share, most, now.value - last)
+            last = now.value
             self._last = self._greatest(now)
             fixed.update(fixing.weeks)
             left = [week for week in left if week not in fixing.weeks]
@@ -141,8 +155,10 @@ class WeekDives(RowSearch):
             fixing = self._fix(new, others)
 
     def _fix(self, weeks: Dict[_Week, NurseWeek], others: int) -> _Fixing:
-        """Lets nurses have rows with these weeks only. The last `others` of them have other choices in the solution."""
-        before, of_nurse = self.pricing, collections.defaultdict(list)
+        """Lets nurses have rows with these weeks only. The last `others` of them have other choices
+        in the solution."""
+        before = self.pricing
+        of_nurse = collections.defaultdict(list)
         self.pricing = before.keeping(
             [(week.nurse, week.days, choices) for week, choices in weeks.items()]
         )
@@ -157,14 +173,16 @@ class WeekDives(RowSearch):
         return _Fixing(weeks, others, before, self.program.shut(out))
 
     def _halved(self, fixing: _Fixing) -> _Fixing:
-        """Undoes a fixing, and fixes its weeks again without the last half of those that had other choices."""
+        """Undoes a fixing, and fixes its weeks again without the last half of those that had other
+        choices."""
         self.pricing = fixing.pricing
         self.program.free(fixing.shut)
         undone = fixing.others - fixing.others // 2
         return self._fix(dict(list(fixing.weeks.items())[:-undone]), fixing.others - undone)
 
     def _shrink(self, whole: RowProgram) -> None:
-        """Goes on with a program without shut columns, if there are many: the solver looks at them, too."""
+        """Goes on with a program without shut columns, if there are many: the solver looks at them,
+        too."""
         if self.program.has_many_shut:
             part = self.program.open_part(self.linear_program())
             self._leave(whole)
@@ -184,22 +202,30 @@ class WeekDives(RowSearch):
     def _relaxed_with(
         self, near: Optional[Prices], last: float, limit: float, clock: Clock
     ) -> Optional[Tuple[Solved, Prices]]:
-        """The linear program with the fixed weeks, and the prices that prove the most. These are not far from those that did so before the
-        last fixing; without any no week is fixed yet. It gets new rows while its value is above the last one, and above what prices prove,
-        and, in a large plan, falls. None if the last fixing should be undone."""
+        """The linear program with the fixed weeks, and the prices that prove the most. These are
+        not far from those that did so before the last fixing; without any no week is fixed yet. It
+        gets new rows while its value is above the last one, and above what prices prove, and, in a
+        large plan, falls. None if it stays above the limit, so that the last fixing is to be
+        undone.
+        """
         if near is None:
             now = self.program.solve(clock)
             return now, now.prices
-        best, bound, is_large = near, -math.inf, len(self.pricing.crews.places) > MANY_PLACES
+        best = near
+        bound = -math.inf
+        is_large = len(self.pricing.crews.places) > MANY_PLACES
         smoothing, tail = (SMOOTHING, TAIL) if is_large else (0.0, MOST_ROUNDS)
         if is_large:
             found = approach(self.pricing, AGAIN, clock.check, near)
             self._add_rounds(found.rounds[-KEPT_AGAIN:])
-            best, bound = found.prices, found.value / POINT
+            best = found.prices
+            bound = found.value / POINT
             if bound > limit:
                 return None
-        # Fixed weeks take columns away, for which the dual method is made, and new rows add columns.
-        now, share = self.program.solve(clock, DUAL), smoothing
+        # Fixed weeks take columns away, for which the dual method is made, and new rows add
+        # columns.
+        now = self.program.solve(clock, DUAL)
+        share = smoothing
         values = [now.value]
         for _ in range(MOST_ROUNDS):
             if now.value <= last + EXACT or (
@@ -209,7 +235,8 @@ class WeekDives(RowSearch):
             tried, priced, new = self._round(now, best, share, clock)
             proved = self._proved(tried, priced) / POINT
             if proved > bound:
-                best, bound = tried, proved
+                best = tried
+                bound = proved
             is_near = now.value - bound <= NEAR and not self._is_no_better(now.value)
             if not (new or share) or bound > limit or self._is_no_better(bound) or is_near:
                 break
@@ -227,16 +254,17 @@ class WeekDives(RowSearch):
         chance: Optional[random.Random],
         in_order: bool,
     ) -> Tuple[Dict[_Week, NurseWeek], int]:
-        """The weeks to fix, and the number of those that have other choices in the solution. Of such weeks this share is fixed, of
-        different nurses and the greatest shares first; at least one. `in_order` these are among the first ones, as many as there are
-        nurses. Weeks without other choices are fixed, too, `in_order` only if they come before these.
+        """The weeks to fix, and the number of those that have other choices in the solution. Of
+        such weeks this share is fixed, of different nurses and the greatest shares first; at least
+        one. `in_order` these are among the first ones, as many as there are nurses. Weeks without
+        other choices are fixed, too, `in_order` only if they come before these.
         """
         shares = self._shares(now, left)
         whole = {
-            week for week, of_week in shares.items() if max(of_week.values(), default=0.0) > WHOLE
+            week
+            for week, of_week in shares.items()
+            if max(of_week.values(), default=0.0) > 1 - WHOLE
         }
-        if chance and len(self.plan.weeks) > 1:
-            shares = {week: self._guided(week, of_week) for week, of_week in shares.items()}
         best = {
             week: max(of_week, key=of_week.__getitem__)
             for week, of_week in shares.items()
@@ -259,14 +287,6 @@ class WeekDives(RowSearch):
             for week in (*(week for week in left[:last] if week in whole), *taken.values())
         }, len(taken)
 
-    def _guided(self, week: _Week, shares: Dict[NurseWeek, float]) -> Dict[NurseWeek, float]:
-        """The shares of a week. The choices that the best roster has count more."""
-        kept = week.of(self.rows[week.nurse]) if self.rows else None
-        return {
-            choices: share * (GUIDED if choices == kept else 1.0)
-            for choices, share in shares.items()
-        }
-
     def _shares(self, now: Solved, weeks: Sequence[_Week]) -> Dict[_Week, Dict[NurseWeek, float]]:
         """The share of each choice of these weeks in a solution."""
         shares: Dict[_Week, Dict[NurseWeek, float]] = {week: {} for week in weeks}
@@ -279,7 +299,8 @@ class WeekDives(RowSearch):
 
 
 def _next_share(share: float, most: float, rise: float) -> float:
-    """The share of the open weeks to fix at once, after a fixing with which the value, in points, rose so much."""
+    """The share of the open weeks to fix at once, after a fixing with which the value, in points,
+    rose so much."""
     if most:
         return min(most, 2 * share) if rise < LITTLE_RISE else share
     return min(MOST_SHARE, 1.5 * share) if rise <= EXACT else max(LEAST_SHARE, 0.7 * share)

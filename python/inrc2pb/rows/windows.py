@@ -1,102 +1,67 @@
-"""Windows: in a long period all nurses get new rows in some weeks, and keep their rows in the others. This module says which window comes
-next, and tries windows in a process of their own while the prices of the period are not known yet."""
+"""Windows: all nurses get new rows on some days, and keep their rows on the others. This module
+says which window comes next."""
 
-import concurrent.futures
-import functools
-import itertools
 import random
-from typing import List, Optional, Set, Tuple
+from typing import List, NamedTuple, Optional
 
-from ..programs.clock import Clock
-from ..solvers.linear_solvers import LinearSolver
 from ..week.records import WEEK_DAYS
-from .part_search import Part
-from .pricing import NurseWeek
-from .row_search import RowSearch
-from .workers import workers
+from .plan import Plan
 
-# The number of weeks of a window before prices are known, and after that in each round. From the second round on dives are by chance, with
-# seeds below the last number.
-FIRST_WINDOW, ROUNDS, MOST_SEED = 3, (4, 4, 5), 1 << 30
+# The number of weeks of a window in a long period, and the numbers of days of those in a week and
+# in a few weeks.
+WEEKS = 4
+DAYS = (5, 6)
+PERIOD_DAYS = (7, 14)
+# With more nurses than this a window of a few weeks takes as long as a dive, which ends lower.
+FEW_NURSES = 50
 
 
-def windows(weeks: int, length: int) -> List[range]:
-    """The days of all windows of so many weeks."""
-    return [
-        range(WEEK_DAYS * first, WEEK_DAYS * (first + length))
-        for first in range(weeks - length + 1)
-    ]
+class Window(NamedTuple):
+    """The days on which all nurses may get new rows, and the seed of its dive; None: without
+    chance."""
+
+    days: range
+    seed: Optional[float]
 
 
 class Windows:
-    """The windows of a roster in the order in which they are tried. Each comes once in a round until the roster is better. `closed` has the
-    days on which no new choices of all nurses make it better."""
+    """The windows of a roster in the order in which they are tried: each of them once, and once
+    more by chance, until the roster is better."""
 
-    def __init__(self, weeks: int, chance: random.Random) -> None:
-        self._weeks, self._chance = weeks, chance
-        # The days of those that are left, and the seeds of their dives, which those of the first round do not have.
-        self._left: List[Tuple[range, Optional[int]]] = []
-        self.closed: Set[range] = set()
+    def __init__(self, plan: Plan, chance: random.Random) -> None:
+        self._days = _days(plan)
+        self._chance = chance
+        self._left: List[Window] = []
         self.open()
 
     def open(self) -> None:
-        """Begins again with the first round, because the roster is another one."""
-        rounds = [windows(self._weeks, length) if length < self._weeks else [] for length in ROUNDS]
-        shuffled = [
-            (number, days)
-            for number, some in enumerate(rounds)
-            for days in self._chance.sample(some, len(some))
+        """Begins again, because the roster is another one."""
+        first, again = (self._chance.sample(self._days, len(self._days)) for _ in range(2))
+        self._left = [Window(days, None) for days in first] + [
+            Window(days, self._chance.random()) for days in again
         ]
-        self._left = [
-            (days, self._chance.randrange(MOST_SEED) if number else None)
-            for number, days in shuffled
-        ]
-        self.closed.clear()
 
-    @property
-    def are_over(self) -> bool:
-        """Whether no round has windows left."""
-        return all(days in self.closed for days, _ in self._left)
+    def close(self, days: range) -> None:
+        """No new rows on these days make the roster better."""
+        self._left = [window for window in self._left if window.days != days]
 
-    def next(self) -> Optional[Tuple[range, Optional[int]]]:
-        """The days of the next window, and the seed of its dive, if that is by chance; None if all rounds are in vain."""
-        while self._left:
-            window = self._left.pop(0)
-            if window[0] not in self.closed:
-                return window
-        return None
+    def next(self) -> Optional[Window]:
+        """The next window; None if all were in vain."""
+        return self._left.pop(0) if self._left else None
 
 
-class Sweeps:
-    """Makes the first plan of a long period better, window after window, until all of them are in vain or it is ended."""
+def of_weeks(weeks: int, number: int) -> List[range]:
+    """The days of all windows of this number of weeks."""
+    firsts = range(weeks - number + 1)
+    return [range(WEEK_DAYS * first, WEEK_DAYS * (first + number)) for first in firsts]
 
-    def __init__(self, search: RowSearch, solver: LinearSolver, clock: Clock) -> None:
-        self._search, self._clock = search, clock.part(clock.left())
-        [self._worker] = workers(search.known(), [solver])
-        self._pool = concurrent.futures.ThreadPoolExecutor(1)
-        self._done = self._pool.submit(self._run)
 
-    def _run(self) -> None:
-        search, vain = self._search, 0
-        nurses: Tuple[int, ...] = tuple(range(len(search.plan.nurses)))
-        every = windows(len(search.plan.weeks), FIRST_WINDOW)
-        for days in itertools.cycle(every):
-            if vain == len(every) or self._clock.left() <= 0:
-                return
-            before, rows, part = (
-                search.penalty,
-                list(search.rows or ()),
-                Part(nurses, days, is_window=True),
-            )
-            self._worker.improve(self._clock, functools.partial(self._take, part), part, rows)
-            vain = vain + 1 if search.penalty == before else 0
-
-    def _take(self, part: Part, found: List[NurseWeek], finder: str) -> bool:
-        rows = self._search.rows
-        return rows is not None and self._search.keep(part.put(rows, found), finder)
-
-    def end(self) -> None:
-        """Ends the search and its process."""
-        self._clock.stop()
-        self._pool.shutdown()
-        self._worker.end()
+def _days(plan: Plan) -> List[range]:
+    """The days of all windows of a plan."""
+    if plan.is_long:
+        return of_weeks(len(plan.weeks), WEEKS)
+    is_week = len(plan.weeks) == 1
+    if not is_week and len(plan.nurses) > FEW_NURSES:
+        return []
+    numbers = DAYS if is_week else PERIOD_DAYS
+    return [range(first, first + days) for days in numbers for first in range(plan.days - days + 1)]

@@ -1,6 +1,8 @@
-"""Processes that search parts and cases of a plan beside this one: Python computes in one thread of a process at a time.
+"""Processes that search parts and cases of a plan beside this one: Python computes in one thread of
+a process at a time.
 
-Nothing depends on a right answer: rows are a roster only after they were checked. A process that ends or hangs costs time.
+Nothing depends on a right answer: rows are a roster only after they were checked. A process that
+ends or hangs costs time.
 """
 
 import contextlib
@@ -15,25 +17,26 @@ from multiprocessing.connection import Connection
 from pathlib import Path
 from typing import List, NamedTuple, Optional, Sequence, Type, TypeVar
 
-from ..programs.clock import Clock, TimeIsOver
+from ..programs.clock import PAUSE, Clock, TimeIsOver
 from ..programs.processes import Processes
 from ..solvers.answers import MAX_FAULTS, SolverFault
 from ..solvers.clp_child import exit_without_parent
 from ..solvers.linear_solvers import LinearSolver
 from .case_search import CaseSearch, CaseTask, Examined
-from .part_search import Dive, Done, Part, PartSearch
+from .part_search import Dive, Done, PartSearch
 from .pricing import Crews, NurseWeek, Pricing
 from .row_search import Known, Take
+from .windows import Window
 
-# Seconds between two looks at the time, and those that a process has beyond the end of the time.
-PAUSE, GRACE = 0.2, 2.0
+# Seconds that a process has beyond the end of the time.
+GRACE = 2.0
 # What a process does. Its words are the file of what is known, and where its modules are.
 _START = f"import sys; sys.path[:] = sys.argv[2:]; from {__name__} import main; main(sys.argv[1])"
 _Answer = TypeVar("_Answer")
 
 
 class _Rows(NamedTuple):
-    """Rows of a part's nurses, or of all, and the name of what found them."""
+    """Rows of all nurses, and the name of what found them."""
 
     rows: List[NurseWeek]
     finder: str
@@ -48,22 +51,24 @@ class _Running(NamedTuple):
 
 
 class Worker:
-    """A process with what is known of a plan, and with solvers of its own, which does what a PartSearch and a CaseSearch do. It starts with
-    the first task. After some faults in a row, or if all of its solvers fail, a task ends with a SolverFault.
+    """A process with what is known of a plan, and with solvers of its own, which does what a
+    PartSearch and a CaseSearch do. It starts with the first task. After some faults in a row, or if
+    all of its solvers fail, a task ends with a SolverFault.
     """
 
     def __init__(self, solver: LinearSolver, known: Path) -> None:
-        self._solver, self._known = solver, known
+        self._solver = solver
+        self._known = known
         self._running: Optional[_Running] = None
         self._faults = 0
 
-    def improve(self, clock: Clock, take: Take, part: Part, rows: Sequence[NurseWeek]) -> Done:
-        """Looks for better rows of a neighborhood."""
-        return self._do(Done, ("improve", part, rows), clock, take) or Done(False, 0)
+    def improve(self, clock: Clock, take: Take, window: Window, rows: List[NurseWeek]) -> Done:
+        """Looks for better rows of a window."""
+        return self._do(Done, ("improve", window, rows), clock, take) or Done(False)
 
     def dive(self, clock: Clock, take: Take, task: Dive) -> Done:
         """Fixes rows of all nurses."""
-        return self._do(Done, ("dive", task), clock, take) or Done(False, 0)
+        return self._do(Done, ("dive", task), clock, take) or Done(False)
 
     def close(self, clock: Clock, take: Take, task: CaseTask) -> Examined:
         """Adds rows until the prices of a case prove its target, or they cannot."""
@@ -78,7 +83,10 @@ class Worker:
         """Does a task; None if the time is over."""
         while clock.left() > 0:
             if self._faults == MAX_FAULTS:
-                raise SolverFault("a process of the search fails")
+                raise SolverFault(
+                    "processes of the search end again and again, perhaps for lack of memory: type"
+                    " the command once more, which goes on from the best roster"
+                )
             found: object = None
             with contextlib.suppress(OSError, EOFError, pickle.UnpicklingError):
                 found = self._answer(task, clock, take)
@@ -115,7 +123,8 @@ class Worker:
         ]
         process = self._solver.open([*words, str(self._known), *sys.path])
         assert process.stdin and process.stdout
-        tasks, answers = os.dup(process.stdin.fileno()), os.dup(process.stdout.fileno())
+        tasks = os.dup(process.stdin.fileno())
+        answers = os.dup(process.stdout.fileno())
         return _Running(
             process, Connection(tasks, readable=False), Connection(answers, writable=False)
         )
@@ -142,7 +151,8 @@ class _Tasks:
     """The tasks of a process."""
 
     def __init__(self, known: Known, solver: LinearSolver) -> None:
-        self._known, self._solver = known, solver
+        self._known = known
+        self._solver = solver
 
     @functools.cached_property
     def _parts(self) -> PartSearch:
@@ -169,7 +179,8 @@ class _Tasks:
 def main(known: str) -> None:
     """Does the tasks that come on standard input. What solvers print goes to standard error."""
     threading.Thread(target=exit_without_parent, args=(os.getppid(),), daemon=True).start()
-    requests, answers = Connection(os.dup(0), writable=False), Connection(os.dup(1), readable=False)
+    requests = Connection(os.dup(0), writable=False)
+    answers = Connection(os.dup(1), readable=False)
     os.dup2(2, 1)
     solver = LinearSolver(Processes(), Path.cwd(), lambda line: None)
     tasks = _Tasks(pickle.loads(Path(known).read_bytes()), solver)

@@ -20,8 +20,8 @@ Announce = Callable[[int, str], None]
 
 
 class Accepted(NamedTuple):
-    """A roster that keeps the hard rules, its text as a file, and its answer. A smaller rank is better: fewer broken absences, less above
-    limits, and then a smaller penalty."""
+    """A roster that keeps the hard rules, its text as a file, and its answer. A smaller rank is
+    better: fewer broken absences, less above limits, and then a smaller penalty."""
 
     cells: Sequence[Cell]
     text: str
@@ -35,10 +35,12 @@ class Accepted(NamedTuple):
 
 
 class BestRoster:
-    """Keeps the best roster in the file `solution`, which always has a whole roster: it breaks the fewest absences, exceeds limits the
-    least of those, and then costs the least. `proved` says whether no roster costs less.
+    """Keeps the best roster in the file `solution`, which always has a whole roster: it breaks the
+    fewest absences, exceeds limits the least of those, and then costs the least. `proved` says
+    whether no roster costs less.
 
-    Others may write the file, too: a better roster of theirs is kept, and anything else is replaced. `warn` gets a line about it.
+    Others may write the file, too: a better roster of theirs is kept, and anything else is
+    replaced, but for the inputs. `warn` gets a line about it.
     """
 
     def __init__(
@@ -48,9 +50,13 @@ class BestRoster:
         solution: Path,
         announce: Announce,
         warn: Callable[[str], None] = lambda line: None,
+        inputs: Sequence[Path] = (),
     ) -> None:
-        self._files, self._week, self._announce, self._warn = files, week, announce, warn
-        self._file = KeptFile(solution)
+        self._files = files
+        self._week = week
+        self._announce = announce
+        self._warn = warn
+        self._file = KeptFile(solution, inputs)
         self._absences = absences_of(week.data)
         self._best: Optional[Accepted] = None
         self.proved = False
@@ -79,7 +85,8 @@ class BestRoster:
         return self._best is not None and not (self.breaks() or self.exceeds())
 
     def offer(self, cells: Sequence[Cell], finder: str) -> Optional[int]:
-        """Keeps the roster if it is better than the best one. Returns its penalty; None if it breaks a hard rule."""
+        """Keeps the roster if it is better than the best one. Returns its penalty; None if it
+        breaks a hard rule."""
         solution = Solution(self._week.history.week, self._week.scenario.name, tuple(cells))
         found = self._accepted(cells, solution_text(solution))
         if found is None:
@@ -113,8 +120,10 @@ class BestRoster:
         self._announce(found.penalty, finder)
 
     def _others(self) -> Optional[Accepted]:
-        """The roster that the file has, if it is new to the search, of this week, and keeps the hard rules."""
-        week, text = self._week, self._file.new_text()
+        """The roster that the file has, if it is new to the search, of this week, and keeps the
+        hard rules."""
+        week = self._week
+        text = self._file.new_text()
         try:
             found = (
                 read_solution(self._file.path, week.scenario, text) if text is not None else None
@@ -130,12 +139,14 @@ class BestRoster:
         return self._accepted(found.cells, text)
 
     def _takes_others(self, mine: Accepted) -> bool:
-        """Whether the file has a roster of someone else that is better than this one. It is then the best one."""
+        """Whether the file has a roster of someone else that is better than this one. It is then
+        the best one."""
         others = self._others()
         if others is None or others.rank >= mine.rank:
             return False
         self._warn(
-            f"{self._file.path} has a better roster than this search, which is kept: its penalty is {others.penalty}"
+            f"{self._file.path} has a better roster than this search, which is kept: its penalty is"
+            f" {others.penalty}"
         )
         self._take(others, "the file")
         return True
@@ -143,7 +154,8 @@ class BestRoster:
     def start(
         self, path: Path, held: Sequence[Cell], finder: str = "the given roster"
     ) -> Sequence[Cell]:
-        """Begins with the roster of a file. Raises ProgramFault, which says why, if it breaks a hard rule."""
+        """Begins with the roster of a file. Raises ProgramFault, which says why, if it breaks a
+        hard rule."""
         week = self._week
         cells = read_roster(path, week.scenario, week.history).cells
         try:
@@ -164,7 +176,8 @@ class BestRoster:
         return cells
 
     def resume(self) -> Optional[Sequence[Cell]]:
-        """Begins with the roster that the file has, if it is one of this week and keeps the hard rules."""
+        """Begins with the roster that the file has, if it is one of this week and keeps the hard
+        rules."""
         found = self._others()
         if found is None:
             return None
@@ -172,17 +185,20 @@ class BestRoster:
         return found.cells
 
     def look_again(self) -> None:
-        """Before the report: if someone else has changed the file, a better roster of theirs is kept, and anything else is replaced."""
+        """Before the report: if someone else has changed the file, a better roster of theirs is
+        kept, and anything else is replaced."""
         best = self._best
         if best is None or self._file.has(best.text) or self._takes_others(best):
             return
         self._file.write(best.text)
         self._warn(
-            f"{self._file.path} was changed during the search: it has the roster of the search again"
+            f"{self._file.path} was changed during the search: it has the roster of the search"
+            " again"
         )
 
     def report(self) -> Optional[Report]:
-        """The report of the roster in the file, if there is one; its status is OPTIMUM FOUND if it is proved."""
+        """The report of the roster in the file, if there is one; its status is OPTIMUM FOUND if it
+        is proved."""
         if self._best is None:
             return None
         answer = self._best.answer

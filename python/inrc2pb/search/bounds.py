@@ -1,4 +1,5 @@
-"""Lower bounds from certificates: `inrc2pb-bound` proves them. Without it they are computed in plain Python."""
+"""Lower bounds from certificates: `inrc2pb-bound` proves them. Without it they are computed in
+plain Python."""
 
 import os
 import re
@@ -8,21 +9,25 @@ from pathlib import Path
 from typing import Callable, List, Optional, Sequence
 
 from ..judging.days_away import DaysAway
+from ..programs.clock import Clock, TimeIsOver
 from ..programs.processes import Processes
 from ..programs.program import WeekFiles, find_program, run_unless_stopped
 from ..rows.case_pricing import CasePricing
 from ..rows.certificate import Certificate
-from ..rows.plan import FREE, STRICT, Calls, Keeping, Plan
+from ..rows.plan import FREE, STRICT, Calls, Keeping, Plan, Points
+from ..rows.pricing import Crews
 from ..rows.row_run import RowRun
 from ..week.facts import Claim, facts_text
 from ..week.faults import ProgramFault
 from ..week.writing import write_text
 
-PROVER, PLAIN = "inrc2pb-bound", "plain Python, not proved"
+PROVER = "inrc2pb-bound"
+PLAIN = "plain Python, not proved"
 # The option of a certificate.
 PROOF = "--proof"
 # Seconds for a proof, and for one after the user has stopped the search.
-PROOF_SECONDS, STOPPED_SECONDS = 60.0, 3.0
+PROOF_SECONDS = 60.0
+STOPPED_SECONDS = 0.75
 EXISTS_NONE = "no roster exists"
 
 
@@ -34,7 +39,8 @@ def find_prover() -> Optional[Path]:
 
 @dataclass(frozen=True)
 class Bound:
-    """A lower bound, and what proved it or computed it. It may hold only for rosters that keep all absences and limits, or all absences."""
+    """A lower bound, and what proved it or computed it. It may hold only for rosters that keep all
+    absences and limits, or all absences."""
 
     points: int
     by: str
@@ -46,10 +52,13 @@ class Bound:
 
 
 class Prover:
-    """The program that proves bounds. It has no answer if it is not there, and none after a fault, which `warn` gets."""
+    """The program that proves bounds. It has no answer if it is not there, and none after a fault,
+    which `warn` gets."""
 
     def __init__(self, warn: Callable[[str], None]) -> None:
-        self._warn, self._processes, self._program = warn, Processes(), find_prover()
+        self._warn = warn
+        self._processes = Processes()
+        self._program = find_prover()
 
     def answer(
         self,
@@ -59,12 +68,14 @@ class Prover:
         given: Sequence[Claim],
         seconds: float,
     ) -> Optional[str]:
-        """What the program prints about the weeks of these options, by a certificate, for the plans that keep the facts."""
+        """What the program prints about the weeks of these options, by a certificate, for the plans
+        that keep the facts."""
         if self._program is None:
             return None
         try:
             with tempfile.TemporaryDirectory(prefix=f"{PROVER}-") as folder:
-                proof, facts = Path(folder, "certificate.txt"), Path(folder, "given.txt")
+                proof = Path(folder, "certificate.txt")
+                facts = Path(folder, "given.txt")
                 write_text(proof, certificate.text(name))
                 write_text(facts, facts_text(name, given))
                 words = [*options, PROOF, str(proof), *(["--given", str(facts)] if given else [])]
@@ -85,28 +96,35 @@ class Prover:
 
 
 class Bounds:
-    """The bounds of some weeks with these options and this name. `target` is the file that gets the certificate, if any."""
+    """The bounds of some weeks with these options and this name. `target` is the file that gets the
+    certificate, if any."""
 
     def __init__(
         self, options: Sequence[str], name: str, target: Optional[Path], warn: Callable[[str], None]
     ) -> None:
-        self._options, self._name, self._target = options, name, target
+        self._options = options
+        self._name = name
+        self._target = target
+        self._warn = warn
         self._prover = Prover(warn)
+        # It is stopped with the proofs.
+        self._clock = Clock(0.0)
 
     def stop(self) -> None:
         """Ends the proof that runs."""
+        self._clock.stop()
         self._prover.stop()
 
     def of(self, run: RowRun, keeping: Keeping, seconds: float) -> Optional[Bound]:
-        """The bound of a search's certificate, for the rosters that keep the absences and limits that these costs forbid to break."""
+        """The bound of a search's certificate, for the rosters that keep the absences and limits
+        that these costs forbid to break."""
         certificate = run.certificate()
         if certificate is None:
             return None
         self._write(certificate)
         # Bounds speak of absences and limits alone.
-        plan, only = replace(run.plan.kept(keeping), beside=DaysAway(), calls=Calls()), _only(
-            run.plan, keeping
-        )
+        plan = replace(run.plan.kept(keeping), beside=DaysAway(), calls=Calls())
+        only = _only(run.plan, keeping)
         answer = self._prover.answer(self._options, self._name, certificate, plan.facts(), seconds)
         found = re.match("lower bound ([0-9]{1,18})\n", answer or "")
         if answer is not None and not found:
@@ -115,11 +133,27 @@ class Bounds:
             return Bound(int(found[1]), PROVER, only)
         points = run.lower_bound if run.plan == plan else None
         if points is None:
-            points = CasePricing(plan, run.crews, lambda: None).bound_of(certificate)
-        return Bound(points, PLAIN, only)
+            points = self._priced(plan, run.crews, certificate, seconds)
+        return None if points is None else Bound(points, PLAIN, only)
+
+    def _priced(
+        self, plan: Plan, crews: Crews, certificate: Certificate, seconds: float
+    ) -> Optional[Points]:
+        """The bound of a certificate for a plan, in plain Python; None if that takes longer."""
+        clock = Clock(seconds, self._clock)
+        try:
+            return CasePricing(plan, crews, clock.check).bound_of(certificate, clock.check)
+        except TimeIsOver:
+            if not clock.stopped:
+                self._warn(
+                    f"the certificate takes more than {seconds:.0f} s to price in plain Python, so"
+                    " there is no bound"
+                )
+            return None
 
     def no_roster(self, plan: Plan, certificate: Certificate, seconds: float) -> Optional[str]:
-        """What proved by a certificate that no roster keeps the minimums, if the plan's absences are kept; None if it does not prove it."""
+        """What proved by a certificate that no roster keeps the minimums, if the plan's absences
+        are kept; None if it does not prove it."""
         self._write(certificate)
         answer = self._prover.answer(
             [*self._options, "--minimums"], self._name, certificate, plan.facts(), seconds
@@ -135,7 +169,8 @@ class Bounds:
 
 def _only(plan: Plan, keeping: Keeping) -> str:
     """Of which rosters a bound speaks; none: of all."""
-    away, limits = bool(plan.away) and keeping != FREE, bool(plan.limits) and keeping == STRICT
+    away = bool(plan.away) and keeping != FREE
+    limits = bool(plan.limits) and keeping == STRICT
     return " and ".join(
         word for word, is_kept in (("absences", away), ("limits", limits)) if is_kept
     )

@@ -7,33 +7,43 @@ from typing import NamedTuple, Optional, Union
 from ..programs.program import BROKEN_RULE, FAULT, NO_ROSTER, WeekFiles, decode
 from ..week.faults import ProgramFault
 
-OPTIMUM, STOPPED, NONE = "OPTIMUM FOUND", "SATISFIABLE", "UNSATISFIABLE"
+OPTIMUM = "OPTIMUM FOUND"
+STOPPED = "SATISFIABLE"
+NONE = "UNSATISFIABLE"
 
 
 class Kind(enum.Enum):
-    """Whether a claim is true: proved, refuted by a roster, false by the answer itself, or not known. SILENT: there is no claim."""
+    """Whether a claim is true: proved, refuted by a roster, false by the answer itself, or not
+    known. UNREADABLE: the answer is cut, or of another model. SILENT: there is no claim."""
 
     CONFIRMED = "confirmed"
     REFUTED = "refuted"
     LIE = "lie"
+    UNREADABLE = "unreadable"
     OPEN = "open"
     SILENT = "no claim"
 
 
+# The verdicts that end a referee with a fault.
+FALSE = (Kind.REFUTED, Kind.LIE, Kind.UNREADABLE)
+
+
 class Answered(NamedTuple):
-    """An answer as `inrc2pb decode` reads it: its status, the cost of its assignment and that of its roster, if it has one, and the last
-    number that it says itself; `fault` says why it was refused."""
+    """An answer as `inrc2pb decode` reads it: its status, the cost of its assignment and that of
+    its roster, if it has one, and the last number that it says itself; `fault` says why it was
+    refused, and `is_readable` whether it is an answer to the model that breaks it."""
 
     status: str = ""
     objective: Optional[int] = None
     penalty: Optional[int] = None
     said: Optional[int] = None
     fault: str = ""
+    is_readable: bool = True
 
 
 class Known(NamedTuple):
-    """What is known of all rosters of a week: the penalty of the best one, and how to name it; the bound that `inrc2pb-bound` has proved,
-    and whether it has proved that no roster exists."""
+    """What is known of all rosters of a week: the penalty of the best one, and how to name it; the
+    bound that `inrc2pb-bound` has proved, and whether it has proved that no roster exists."""
 
     penalty: Optional[int] = None
     roster: str = ""
@@ -52,14 +62,16 @@ class Verdict(NamedTuple):
 
 
 def read_answer(files: WeekFiles, answer: Union[str, Path], solution: Path) -> Answered:
-    """Lets `inrc2pb decode` read an answer, a text or a file. Its roster, if it has one, is written to the file `solution`."""
+    """Lets `inrc2pb decode` read an answer, a text or a file. Its roster, if it has one, is written
+    to the file `solution`."""
     try:
         report = decode(files, answer, solution)
     except ProgramFault as fault:
         if fault.status == NO_ROSTER:
             return Answered(fault.message.rpartition(": ")[2])
         if fault.status in (FAULT, BROKEN_RULE):
-            return Answered(fault=fault.message.partition(": ")[2] or fault.message)
+            why = fault.message.partition(": ")[2] or fault.message
+            return Answered(fault=why, is_readable=fault.status == BROKEN_RULE)
         raise
     return Answered(report.status, report.objective, report.penalty, report.last_o)
 
@@ -67,7 +79,7 @@ def read_answer(files: WeekFiles, answer: Union[str, Path], solution: Path) -> A
 def judged(answer: Answered, known: Known) -> Verdict:
     """Whether the claim of an answer is true. Its own roster counts too."""
     if answer.fault:
-        return Verdict(Kind.LIE, answer.fault)
+        return Verdict(Kind.LIE if answer.is_readable else Kind.UNREADABLE, answer.fault)
     if answer.said is not None and answer.said != answer.objective:
         return Verdict(
             Kind.LIE,

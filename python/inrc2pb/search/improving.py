@@ -30,11 +30,13 @@ Running = Union[WeekSearch, SolverRun]
 
 
 class SearchResult:
-    """The result of a search: the report of the best roster, and the lower bound or None, with what proved or computed it.
+    """The result of a search: the report of the best roster, and the lower bound or None, with what
+    proved or computed it.
 
-    `proved` says whether no roster that keeps what `bound_only` names costs less, `breaks` whether this one breaks an absence, `exceeds`
-    whether it exceeds a limit, and `stopped` whether the user stopped the search; `fault` is the fault that ended it. `changes` has a
-    line for each file that was read and has something else now.
+    `proved` says whether no roster that keeps what `bound_only` names costs less, `breaks` whether
+    this one breaks an absence, `exceeds` whether it exceeds a limit, and `stopped` whether the user
+    stopped the search; `fault` is the fault that ended it. `changes` has a line for each file that
+    was read and has something else now.
     """
 
     def __init__(
@@ -84,7 +86,8 @@ class SearchResult:
             )
             return [line, less + (but or (", proved" if self.bound_by == PROVER else ""))]
         return [
-            f"{line}: the gap is {self.report.penalty - self.bound}, {gap_share(self.report.penalty, self.bound)}"
+            f"{line}: the gap is {self.report.penalty - self.bound},"
+            f" {gap_share(self.report.penalty, self.bound)}"
         ]
 
 
@@ -98,26 +101,28 @@ def improve(
     proof: Optional[Path] = None,
     seed: int = 1,
 ) -> SearchResult:
-    """Searches for these seconds, writes the best roster to `solution`, and returns its report and lower bound.
+    """Searches for these seconds, writes the best roster to `solution`, and returns its report and
+    lower bound.
 
-    `start` is the roster to begin with, if it is not the one that `solution` has of this week, `solver` a command that solves the whole
-    week in place of the search over rows, and `proof` the file for the certificate of the bound. The `seed` begins the random choices.
-    Ctrl-C, TERM or a fault end the search: the roster is written, then KeyboardInterrupt or the fault is raised.
+    `start` is the roster to begin with, if it is not the one that `solution` has of this week,
+    `solver` a command that solves the whole week in place of the search over rows, and `proof` the
+    file for the certificate of the bound. The `seed` begins the random choices. Ctrl-C, TERM or a
+    fault end the search: the roster is written, then KeyboardInterrupt or the fault is raised.
     """
-    outcome = search(
-        files,
-        solution,
-        start,
-        seconds=seconds,
-        solver=solver,
-        proof=proof,
-        progress=Progress(None),
-        seed=seed,
-    )
-    if outcome.fault:
-        raise outcome.fault
-    if outcome.stopped:
-        raise KeyboardInterrupt
+    with interrupts() as signals, signals.ending():
+        outcome = search(
+            files,
+            solution,
+            start,
+            seconds=seconds,
+            solver=solver,
+            proof=proof,
+            progress=Progress(None),
+            seed=seed,
+        )
+        if outcome.fault:
+            raise outcome.fault
+        signals.check()
     return outcome
 
 
@@ -131,27 +136,39 @@ def search(
     progress: Progress,
     seed: int = 1,
     wait: bool = False,
+    originals: Sequence[Path] = (),
 ) -> SearchResult:
-    """As `improve`, with its progress printed. A fault is raised only if there is no roster; a signal is no fault.
+    """As `improve`, with its progress printed. A fault is raised only if there is no roster; a
+    signal is no fault.
 
-    With `wait` it begins when no other search writes `solution`. The files are read once, at the beginning.
+    With `wait` it begins when no other search writes `solution`. The files are read once, at the
+    beginning; neither they nor the `originals` of which they are copies are replaced.
     """
     check_no_pipes((*files.all(), start))
-    given, solution = solution, Path(solution).absolute()
+    given = solution
+    solution = Path(solution).absolute()
     own = find_solver(solver) if solver else None
     _check_targets(files, solution, proof)
     with interrupts() as signals, locked([solution], wait, progress.warn):
         inputs = Inputs()
         try:
             with inputs.naming():
-                copies, clock = files.copied(inputs.copy), Clock(seconds)
+                copies = files.copied(inputs.copy)
+                clock = Clock(seconds)
                 week = read_week_given(copies)
                 held = (
                     held_rows(copies.fix, week, lambda line: progress.warn(inputs.named(line)))
                     if copies.fix
                     else ()
                 )
-                best = BestRoster(copies, week, solution, progress.improved, progress.warn)
+                best = BestRoster(
+                    copies,
+                    week,
+                    solution,
+                    progress.improved,
+                    progress.warn,
+                    (*files.all(), *originals),
+                )
                 parts = (copies, week, held, best, clock, progress, seed)
                 running: Running = SolverRun(own, *parts, given) if own else WeekSearch(*parts)
                 fault = _run(running, best, inputs.copy(start), held, proof)
@@ -194,7 +211,8 @@ def _check_targets(files: WeekFiles, solution: Path, proof: Optional[Path]) -> N
             check_inputs_stay(files.all(), target, what)
     if proof and os.path.realpath(solution) == os.path.realpath(proof) != os.devnull:
         raise Misuse(
-            f"{proof} gets the roster, so the certificate cannot be written to it: choose another file"
+            f"{proof} gets the roster, so the certificate cannot be written to it: choose another"
+            " file"
         )
 
 
@@ -206,9 +224,10 @@ def _run(
     proof: Optional[Path],
 ) -> Optional[Exception]:
     """Runs a search. Returns the fault that ended it."""
-    with interrupts() as signals, tempfile.TemporaryDirectory(
-        prefix="inrc2pb-solve-", ignore_cleanup_errors=True
-    ) as folder:
+    with (
+        interrupts() as signals,
+        tempfile.TemporaryDirectory(prefix="inrc2pb-solve-", ignore_cleanup_errors=True) as folder,
+    ):
         try:
             rows = best.start(start, held) if start else best.resume()
             with signals.calling(running.interrupt):
@@ -229,7 +248,8 @@ def read_week_given(files: WeekFiles) -> Week:
 
 def _not_kept(week: Week, held: Sequence[Cell], best: BestRoster) -> Iterator[str]:
     """Who works while away or exceeds a limit in the best roster, and what to do."""
-    broken, over = best.breaks(), best.exceeds()
+    broken = best.breaks()
+    over = best.exceeds()
     if broken:
         yield f"no roster was found that keeps every absence: {in_words(broken)}"
         yield way_out(week.scenario, held, broken)
@@ -246,7 +266,8 @@ def _result(
     seconds: float,
     changes: Sequence[str],
 ) -> SearchResult:
-    """The result of a search that has ended. Raises ProgramFault, which says why, if there is no roster."""
+    """The result of a search that has ended. Raises ProgramFault, which says why, if there is no
+    roster."""
     bound = running.bound
     best.proved = best.penalty is not None and bound is not None and best.penalty <= bound.points
     try:

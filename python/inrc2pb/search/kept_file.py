@@ -1,18 +1,27 @@
 """A file that a search writes again and again, and that others may write in the meantime."""
 
 from pathlib import Path
-from typing import Optional
+from typing import Optional, Sequence
 
 from ..week.faults import FileFault
 from ..week.slots import text_of
-from ..week.writing import check_no_pipe_is_written, file_at, is_open_file, write_text
+from ..week.writing import (
+    check_inputs_stay,
+    check_no_pipe_is_written,
+    file_at,
+    is_open_file,
+    write_text,
+)
 
 
 class KeptFile:
-    """A file whose last known text is kept. A device and an open file, such as standard output, are written only."""
+    """A file whose last known text is kept. A device and an open file, such as standard output, are
+    written only. It never takes the place of one of the inputs."""
 
-    def __init__(self, path: Path) -> None:
-        self.path, target = path, file_at(path)
+    def __init__(self, path: Path, inputs: Sequence[Path]) -> None:
+        self.path = path
+        self._inputs = inputs
+        target = file_at(path)
         self._is_looked_at = not is_open_file(path) and (target.is_file() or not target.exists())
         self._known: Optional[str] = None
 
@@ -25,8 +34,10 @@ class KeptFile:
         return text
 
     def write(self, text: str) -> None:
-        """Writes the file anew. Raises Misuse if someone else has put a pipe there: nobody may read it."""
+        """Writes the file anew. Raises Misuse if someone else has put a pipe there, which nobody
+        may read, or a link to an input."""
         check_no_pipe_is_written(self.path)
+        check_inputs_stay(self._inputs, self.path, "the roster")
         write_text(self.path, text)
         self._known = text
 

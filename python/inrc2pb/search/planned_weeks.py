@@ -1,4 +1,5 @@
-"""The weeks of a period that are planned: their files as values, and their rosters and histories as files."""
+"""The weeks of a period that are planned: their files as values, and their rosters and histories as
+files."""
 
 from dataclasses import dataclass, field, replace
 from pathlib import Path
@@ -45,9 +46,11 @@ from ..week.writing import write_text
 
 @dataclass(frozen=True)
 class PeriodFiles:
-    """The files of a period: the weeks' files in their order, and the fix file of some weeks, by their index, from 0.
+    """The files of a period: the weeks' files in their order, and the fix file of some weeks, by
+    their index, from 0.
 
-    With `ahead` the weeks after them are not known yet, and count with the numbers of these. `given` has the facts that plans keep.
+    With `ahead` the weeks after them are not known yet, and count with the numbers of these.
+    `given` has the facts that plans keep.
     """
 
     scenario: Path
@@ -70,11 +73,9 @@ class PeriodFiles:
 
     def copied(self, copy: Callable[[Path], Path]) -> "PeriodFiles":
         """The same period with copies of its files."""
-        scenario, history, given = (
-            copy(self.scenario),
-            copy(self.history),
-            copy(self.given) if self.given else None,
-        )
+        scenario = copy(self.scenario)
+        history = copy(self.history)
+        given = copy(self.given) if self.given else None
         fixes = {index: copy(path) for index, path in self.fixes.items()}
         return replace(
             self,
@@ -94,13 +95,16 @@ class WrittenWeek(NamedTuple):
 
 
 class PlannedWeeks:
-    """The weeks that are planned, as values. `hints` names the fix files that seem to be of another week, and `beside` has the days away
-    that concern the days beside them; `calls` has an older roster."""
+    """The weeks that are planned, as values. `hints` names the fix files that seem to be of another
+    week, and `beside` has the days away that concern the days beside them; `calls` has an older
+    roster."""
 
     def __init__(
         self, files: PeriodFiles, beside: DaysAway = DaysAway(), calls: Calls = Calls()
     ) -> None:
-        self.files, self.beside, self.calls = files, beside, calls
+        self.files = files
+        self.beside = beside
+        self.calls = calls
         self.hints: List[str] = []
         self.scenario: Scenario = read_scenario(files.scenario)
         self.history: History = read_history(files.history, self.scenario)
@@ -127,7 +131,8 @@ class PlannedWeeks:
         self.held += [row._replace(day=row.day + WEEK_DAYS * index) for row in rows]
 
     def later(self) -> List[WeekData]:
-        """A forecast of the weeks that are not known: the numbers of the known ones in turn, without requests and absences."""
+        """A forecast of the weeks that are not known: the numbers of the known ones in turn,
+        without requests and absences."""
         missing = self.scenario.weeks - self.numbers.stop if self.files.ahead else 0
         return [
             replace(self.data[number % len(self.data)], requests=(), absences=frozenset())
@@ -143,7 +148,8 @@ class PlannedWeeks:
 
     def week_files(self, number: int, history: Optional[Path] = None) -> WeekFiles:
         """The files of a week. Its history is the given one of the first week, or another."""
-        files, index = self.files, number - self.numbers[0]
+        files = self.files
+        index = number - self.numbers[0]
         return WeekFiles(
             files.scenario,
             history or files.history,
@@ -180,7 +186,8 @@ class PlannedWeeks:
                 history = next_history(self.scenario, history, of_week)
 
     def not_kept(self, cells: Sequence[Cell]) -> Tuple[int, int]:
-        """How many absences these assignments break, and how much they have above limits, with the days beside days away."""
+        """How many absences these assignments break, and how much they have above limits, with the
+        days beside days away."""
         weeks = (
             list(self.each(cells))
             if any(data.limits or absences_of(data) for data in self.data)
@@ -194,21 +201,32 @@ class PlannedWeeks:
         return broken, above + days_away.excess(self.scenario, self.history, self.beside, shifts)
 
     def warnings(self, cells: Sequence[Cell]) -> Iterator[str]:
-        """The weeks in which these assignments break an absence or exceed a limit, who works then, and what to do."""
+        """The weeks in which these assignments break an absence or exceed a limit, who works then,
+        and what to do."""
         for index, (week, of_week) in enumerate(self.each(cells)):
-            broken, over = working_while_away(absences_of(week.data), of_week), exceeded(
-                week, week.data.limits, of_week
-            )
+            broken = working_while_away(absences_of(week.data), of_week)
+            over = exceeded(week, week.data.limits, of_week)
             if broken:
-                yield f"{week_name(week.history.week)}: no roster was found that keeps every absence: {in_words(broken)}"
-                yield f"{week_name(week.history.week)}: {way_out(self.scenario, in_week(self.held, index), broken)}"
+                yield (
+                    f"{week_name(week.history.week)}: no roster was found that keeps every absence:"
+                    f" {in_words(broken)}"
+                )
+                yield (
+                    f"{week_name(week.history.week)}:"
+                    f" {way_out(self.scenario, in_week(self.held, index), broken)}"
+                )
             if over:
-                yield f"{week_name(week.history.week)}: no plan was found that keeps every limit: {limits_in_words(over, of_week)}"
+                yield (
+                    f"{week_name(week.history.week)}: no plan was found that keeps every limit:"
+                    f" {limits_in_words(over, of_week)}"
+                )
                 yield f"{week_name(week.history.week)}: {limits_way_out(week, over, of_week)}"
 
     def texts(self, cells: Sequence[Cell]) -> Dict[str, str]:
-        """The weeks' rosters, of assignments whose days count from the first week, and the history after each week, by file names."""
-        history, found = self.history, {}
+        """The weeks' rosters, of assignments whose days count from the first week, and the history
+        after each week, by file names."""
+        history = self.history
+        found = {}
         for index, number in enumerate(self.numbers):
             rows = in_week(cells, index)
             found[roster_name(number)] = solution_text(Solution(number, self.scenario.name, rows))

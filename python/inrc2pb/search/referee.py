@@ -1,4 +1,5 @@
-"""A referee of claims about a week: it looks for a roster that refutes them, and for a bound that `inrc2pb-bound` proves."""
+"""A referee of claims about a week: it looks for a roster that refutes them, and for a bound that
+`inrc2pb-bound` proves."""
 
 import tempfile
 from dataclasses import replace
@@ -21,19 +22,29 @@ FOUND = "a roster that the referee has found"
 
 
 class Referee:
-    """What is known of all rosters of a week: the best one of those that it was told and that its search finds, in the file `target`, and
-    a bound. Facts that are given are no part of a model, so they do not count here."""
+    """What is known of all rosters of a week: the best one of those that it was told and that its
+    search finds, in the file `target`, which takes the place of no input, and a bound. Facts that
+    are given are no part of a model, so they do not count here."""
 
     def __init__(
-        self, files: WeekFiles, week: Week, held: Sequence[Cell], target: Path, progress: Progress
+        self,
+        files: WeekFiles,
+        week: Week,
+        held: Sequence[Cell],
+        target: Path,
+        progress: Progress,
+        inputs: Sequence[Path] = (),
     ) -> None:
-        self._files, self._held, self._progress = replace(files, given=None), held, progress
+        self._files = replace(files, given=None)
+        self._held = held
+        self._progress = progress
         self._week = replace(
             week, data=replace(week.data, absences=frozenset(), limits=frozenset())
         )
         self._search: Optional[WeekSearch] = None
-        self._finder, self._none_exists = "", False
-        self.best = BestRoster(self._files, self._week, target, self._found, progress.warn)
+        self._finder = ""
+        self._none_exists = False
+        self.best = BestRoster(self._files, self._week, target, self._found, progress.warn, inputs)
         self.bound: Optional[Bound] = None
 
     def _found(self, penalty: int, finder: str) -> None:
@@ -41,11 +52,13 @@ class Referee:
         self._progress.improved(penalty, finder)
 
     def tell(self, roster: Path, name: str) -> None:
-        """Tells of a roster of the week, and how to name it. Raises ProgramFault if it breaks a hard rule."""
+        """Tells of a roster of the week, and how to name it. Raises ProgramFault if it breaks a
+        hard rule."""
         self.best.start(roster, self._held, name)
 
     def search(self, clock: Clock, seed: int = 1, proof: Optional[Path] = None) -> None:
-        """Looks for the best roster and for a bound until the clock ends. `proof` is the file for the certificate."""
+        """Looks for the best roster and for a bound until the clock ends. `proof` is the file for
+        the certificate."""
         self._search = WeekSearch(
             self._files,
             self._week,

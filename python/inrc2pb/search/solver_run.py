@@ -18,8 +18,9 @@ from .referee import SECONDS, Referee
 
 
 class SolverRun:
-    """A run of the solver within the time of a clock. Time that it leaves goes to the proof of its claim: the `seed` begins the random
-    choices of that search. `target` names the file of the best roster."""
+    """A run of the solver within the time of a clock. Time that it leaves goes to the proof of its
+    claim: the `seed` begins the random choices of that search. `target` names the file of the best
+    roster."""
 
     def __init__(
         self,
@@ -33,14 +34,15 @@ class SolverRun:
         seed: int,
         target: Path,
     ) -> None:
-        self._solver, self._files, self._week, self._held, self._best = (
-            solver,
-            files,
-            week,
-            held,
-            best,
-        )
-        self._clock, self._progress, self._seed, self._target = clock, progress, seed, target
+        self._solver = solver
+        self._files = files
+        self._week = week
+        self._held = held
+        self._best = best
+        self._clock = clock
+        self._progress = progress
+        self._seed = seed
+        self._target = target
         self._processes = Processes()
         self._referee: Optional[Referee] = None
         self.bound: Optional[Bound] = None
@@ -48,7 +50,8 @@ class SolverRun:
         self.verdict = ""
 
     def interrupt(self) -> None:
-        """Ends the run as the user asks: as soon as the solver has printed what it has, if there is no roster yet, else now."""
+        """Ends the run as the user asks: as soon as the solver has printed what it has, if there is
+        no roster yet, else now."""
         self._clock.stop()
         if self._referee:
             self._referee.interrupt()
@@ -63,8 +66,8 @@ class SolverRun:
         return self._clock.left() > 0
 
     def run(self, folder: Path, _start: Optional[Sequence[Cell]], proof: Optional[Path]) -> None:
-        """Lets the solver solve the week once, and judges what it claims. `proof` is the file for the certificate of a bound. Raises Misuse
-        if the solver has no answer."""
+        """Lets the solver solve the week once, and judges what it claims. `proof` is the file for
+        the certificate of a bound. Raises Misuse if the solver has no answer."""
         solver = self._solver
         outcome = solver.solve(self._files, self._clock.left(), folder, self._processes)
         if not outcome.answer:
@@ -82,7 +85,8 @@ class SolverRun:
         self._judge(answer, solver.name, roster, proof)
 
     def _judge(self, answer: Answered, name: str, roster: Path, proof: Optional[Path]) -> None:
-        """Judges the claim of an answer: by the best roster, or by a search for a better one and for a bound."""
+        """Judges the claim of an answer: by the best roster, or by a search for a better one and
+        for a bound."""
         known = Known(self._best.penalty, str(self._target))
         if answer.status in (OPTIMUM, NONE) and judged(answer, known).kind is Kind.OPEN:
             known = self._searched(answer, name, roster, proof)

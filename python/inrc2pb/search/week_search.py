@@ -32,17 +32,28 @@ class WeekSearch:
         progress: Progress,
         seed: int = 1,
     ) -> None:
-        self._files, self._week, self._held, self._best = files, week, held, best
-        self._clock, self._progress, self._seed = clock, progress, seed
+        self._files = files
+        self._week = week
+        self._held = held
+        self._best = best
+        self._clock = clock
+        self._progress = progress
+        self._seed = seed
         self._processes = Processes()
+        # As soon as the search is over, and its bound is proved.
+        self._bounds: Optional[Bounds] = None
         self._bound: Optional[Bound] = None
-        # What has proved that no roster exists, and a line about the claim of a user's own solver: none judges one here.
-        self.none_by, self.verdict = "", ""
+        # What has proved that no roster exists, and a line about the claim of a user's own solver:
+        # none judges one here.
+        self.none_by = ""
+        self.verdict = ""
 
     def interrupt(self) -> None:
-        """Ends the search now."""
+        """Ends the search now, or the proof of its bound, if that runs already."""
         self._clock.stop()
         self._processes.stop()
+        if self._bounds:
+            self._bounds.stop()
 
     @property
     def bound(self) -> Optional[Bound]:
@@ -55,8 +66,8 @@ class WeekSearch:
         return self._clock.left() > 0
 
     def run(self, folder: Path, start: Optional[Sequence[Cell]], proof: Optional[Path]) -> None:
-        """Searches over the rows of the nurses. `proof` is the file for the certificate of the bound. Raises NoneExists if it is
-        proved that no roster exists.
+        """Searches over the rows of the nurses. `proof` is the file for the certificate of the
+        bound. Raises NoneExists if it is proved that no roster exists.
 
         Rows keep all absences and limits, unless no roster can.
         """
@@ -88,6 +99,7 @@ class WeekSearch:
         finally:
             if solver:
                 solver.close()
+            self._bounds = bounds
             self._take_bound(runs, bounds)
         self._judge(runs[-1], bounds)
 
@@ -131,7 +143,8 @@ class WeekSearch:
         self._bound = bounds.of(runs[0] if keeping == STRICT else runs[-1], keeping, seconds)
         if self._bound and self.bound is None:
             self._progress.warn(
-                f"the lower bound {self._bound.points} ({self._bound.by}) is above the penalty of a roster: it is wrong"
+                f"the lower bound {self._bound.points} ({self._bound.by}) is above the penalty of a"
+                " roster: it is wrong"
             )
 
     def _judge(self, run: RowRun, bounds: Bounds) -> None:
@@ -143,7 +156,10 @@ class WeekSearch:
         if run.without_row:
             raise NoneExists(
                 NO_ROSTER,
-                f"no roster keeps the hard rules{held}: those of {run.without_row} contradict one another",
+                (
+                    f"no roster keeps the hard rules{held}: those of {run.without_row} contradict"
+                    " one another"
+                ),
             )
         by = (
             bounds.no_roster(run.plan.hard_only(), run.minimums, PROOF_SECONDS)

@@ -1,7 +1,8 @@
 """Why no roster exists: the smallest set of minimum numbers to lower, found by a search over rows.
 
-In a copy of the week each minimum is only the best number, and nothing else costs anything, but for absences. So the cost of a roster
-is 30 points for each nurse below a minimum, and the best roster shows the fewest that have to be lowered.
+In a copy of the week each minimum is only the best number, and nothing else costs anything, but for
+absences. So the cost of a roster is 30 points for each nurse below a minimum, and the best roster
+shows the fewest that have to be lowered.
 """
 
 import tempfile
@@ -26,7 +27,8 @@ CAN = "could, if nothing else needs her"
 
 
 class Owner(NamedTuple):
-    """A nurse with the skill of a place who does not fill it, whether she is away, and what hinders her in words, if something does."""
+    """A nurse with the skill of a place who does not fill it, whether she is away, and what hinders
+    her in words, if something does."""
 
     nurse: str
     is_away: bool
@@ -34,7 +36,8 @@ class Owner(NamedTuple):
 
 
 class ShortPlace(NamedTuple):
-    """A place whose minimum has to be lowered to the number of nurses there; whether someone has its skill, and who does not fill it."""
+    """A place whose minimum has to be lowered to the number of nurses there; whether someone has
+    its skill, and who does not fill it."""
 
     place: Place
     minimum: int
@@ -44,8 +47,8 @@ class ShortPlace(NamedTuple):
 
 
 class Shortage(NamedTuple):
-    """The minimum numbers to lower so that a roster exists, who works in it though she is away, whether it keeps absences, if there are
-    some, and whether no roster can do with less."""
+    """The minimum numbers to lower so that a roster exists, who works in it though she is away,
+    whether it keeps absences, if there are some, and whether no roster can do with less."""
 
     places: Tuple[ShortPlace, ...]
     working: Tuple[Cell, ...]
@@ -96,7 +99,8 @@ def why_none(files: WeekFiles, week: Week) -> Shortage:
         write_text(data, week_text(easy.data))
         found = _solve(replace(files, scenario=scenario, week=data, early=False), roster)
         cells = read_solution(roster).cells
-    number, away = numbers(cells), absences_of(week.data)
+    number = numbers(cells)
+    away = absences_of(week.data)
     places = [
         _short(week, cells, place)
         for place, asked in week.data.requirements.items()
@@ -153,8 +157,14 @@ def shortage_head(found: Shortage) -> str:
     if not found.places:
         return f"A roster exists that meets all minimum numbers{kept}."
     if not found.is_proved:
-        return f"These minimum numbers, lowered by {found.lowered} in all, have a roster{kept}; fewer may be enough:"
-    return f"No roster meets all minimum numbers{kept}. Lower these by {found.lowered} in all; no roster can do with less:"
+        return (
+            f"These minimum numbers, lowered by {found.lowered} in all, have a roster{kept}; fewer"
+            " may be enough:"
+        )
+    return (
+        f"No roster meets all minimum numbers{kept}. Lower these by {found.lowered} in all; no"
+        " roster can do with less:"
+    )
 
 
 def lowered_text(short: ShortPlace) -> str:
@@ -165,4 +175,7 @@ def lowered_text(short: ShortPlace) -> str:
 def kept_no_absence_lines(found: Shortage) -> Iterator[str]:
     """Who works though she is away in the roster that lowers least, if someone does."""
     if found.working:
-        yield f"{in_words(found.working)}, though away: no roster keeps every absence, even without minimum numbers; look at --fix"
+        yield (
+            f"{in_words(found.working)}, though away: no roster keeps every absence, even without"
+            " minimum numbers; look at --fix"
+        )

@@ -1,4 +1,5 @@
-"""The days and weeks that the sheets name: the heads of the sheet plan, one for each day, and the weeks of rows of the sheet needs."""
+"""The days and weeks that the sheets name: the heads of the sheet plan, one for each day, and the
+weeks of rows of the sheet needs."""
 
 import datetime
 import re
@@ -6,9 +7,11 @@ from typing import Iterator, List, NamedTuple, Optional
 
 from ..week.dates import DAY, PlanDays, written_dates
 from ..week.records import DAYS, Scenario
+from ..week.slots import MAX_WEEKS
 from ..week.words import plural
+from .sheet_cells import SheetCell
 from .sheet_files import Book
-from .sheet_rows import SheetCell, Table
+from .sheet_rows import Table
 
 _OTHER_DATE = re.compile(r"\b([0-9]{1,2})[/-]([0-9]{1,2})[/-]([0-9]{4})\b")
 # A date as a spreadsheet counts it, from 1954 on.
@@ -20,11 +23,13 @@ NO_WEEK = -1
 
 
 class Days(NamedTuple):
-    """The columns of the plan, one for each day, and the date of the first, if the heads have dates."""
+    """The columns of a period of the sheet plan, one for each day, the date of the first, if the
+    heads have dates, and all days of the sheet."""
 
     plan: Table
     columns: List[SheetCell]
     monday: Optional[datetime.date]
+    sheet: PlanDays
 
     @property
     def weeks(self) -> int:
@@ -37,8 +42,9 @@ class Days(NamedTuple):
         return PlanDays(self.monday, self.weeks)
 
 
-def read_days(book: Book) -> Days:
-    """The days of the sheet plan: whole weeks from Monday to Sunday."""
+def read_days(book: Book, period: Optional[PlanDays] = None) -> Days:
+    """The days of the sheet plan, whole weeks from Monday to Sunday; of these those of a period, if
+    the sheet has them all."""
     plan = Table(book, "plan", ("nurse",), open_end=True)
     columns = plan.others
     dates = [date_of(cell) for cell in columns]
@@ -53,23 +59,38 @@ def read_days(book: Book) -> Days:
         if bool(date) != bool(monday):
             has = "a date" if date else "no date"
             cell.fault(
-                f"'{date_shown(cell, date)}' has {has}, unlike the first day: write dates for all days or for none"
+                f"'{date_shown(cell, date)}' has {has}, unlike the first day: write dates for all"
+                " days or for none"
             )
         wanted = DAYS[index % len(DAYS)]
         if (date.weekday() if date else day_of_head(cell)) != index % len(DAYS):
             cell.fault(
-                f"'{date_shown(cell, date)}' should be a {wanted}: the plan begins on a Monday, and has each day once"
+                f"'{date_shown(cell, date)}' should be a {wanted}: the plan begins on a Monday, and"
+                " has each day once"
             )
+    most = MAX_WEEKS * len(DAYS)
+    if len(columns) > most:
+        columns[most].fault(
+            f"week {MAX_WEEKS + 1} begins here, and a plan has at most {MAX_WEEKS} weeks: delete"
+            " the days from here on"
+        )
     if not columns or len(columns) % len(DAYS):
         plan.fault(f"it has {plural(len(columns), 'day')}: plan whole weeks, from Monday to Sunday")
-    return Days(plan, columns, monday)
+    sheet = PlanDays(monday, len(columns) // len(DAYS))
+    first = sheet.first_of(period) if period else None
+    if period is None or first is None:
+        return Days(plan, columns, monday, sheet)
+    return Days(plan, columns[first : first + period.total], period.monday, sheet)
 
 
 def plan_warnings(days: Days, scenario: Scenario) -> Iterator[str]:
     """Warnings of heads that count weeks from 0, and of nurses for whom the plan has no row."""
     if not days.monday and days.columns and week_of_head(days.columns[0]) == 0:
-        yield f"its heads count weeks from 0, and verbs count from 1: write Mon 1 for {days.columns[0].text}, and so on"
-    there = {row.of("nurse").text.replace(" ", "_").casefold() for row in days.plan.rows}
+        yield (
+            "its heads count weeks from 0, and verbs count from 1: write Mon 1 for"
+            f" {days.columns[0].text}, and so on"
+        )
+    there = {row.of("nurse").key for row in days.plan.rows}
     no_row = "has no row: she has no wishes and no absences; if she has some, add a row"
     yield from (f"{nurse} {no_row}" for nurse in scenario.nurses if nurse.casefold() not in there)
 
@@ -85,7 +106,8 @@ def day_of_head(cell: SheetCell) -> int:
             return day
     whole = ", or whole dates such as 2026-11-30" if re.search("[0-9]", cell.text) else ""
     cell.fault(
-        f"'{cell.text}' is no day of the week: write one of {','.join(DAYS)}{whole}, or begin the head with #"
+        f"'{cell.text}' is no day of the week: write one of {','.join(DAYS)}{whole}, or begin the"
+        " head with #"
     )
 
 
@@ -98,10 +120,12 @@ def week_of_head(cell: SheetCell) -> Optional[int]:
 def date_of(cell: SheetCell) -> Optional[datetime.date]:
     """The date in a head: written out, or as a number of a spreadsheet."""
     written = next((date for date in written_dates(cell.text) if date.year is not None), None)
-    serial, other = _SERIAL.search(cell.text), _OTHER_DATE.search(cell.text)
+    serial = _SERIAL.search(cell.text)
+    other = _OTHER_DATE.search(cell.text)
     if other and not written:
         cell.fault(
-            f"'{cell.text}' may have the day or the month first: write {_year_first(*map(int, other.groups()))}"
+            f"'{cell.text}' may have the day or the month first: write"
+            f" {_year_first(*map(int, other.groups()))}"
         )
     if not written:
         return cell.book.day_zero + int(serial.group()) * DAY if serial else None
@@ -111,7 +135,8 @@ def date_of(cell: SheetCell) -> Optional[datetime.date]:
         cell.fault(f"there is no day {written.text}: write a date such as 2026-11-30")
     if date.year < _FIRST_YEAR:
         cell.fault(
-            f"a spreadsheet makes {date} of the number of a day: write whole dates, such as 2026-11-30"
+            f"a spreadsheet makes {date} of the number of a day: write whole dates, such as"
+            " 2026-11-30"
         )
     return date
 
@@ -133,19 +158,27 @@ def _year_first(first: int, second: int, year: int) -> str:
 
 
 def week_of_row(cell: SheetCell, days: Days) -> Optional[int]:
-    """The week of a row of the needs, from 0, by its number, a calendar week or a date in it; None: all weeks; NO_WEEK: a date that is not
-    in the plan, so that the row counts for none of its weeks."""
+    """The week of a row of the needs, from 0, by its number, a calendar week or a date in it; None:
+    all weeks; NO_WEEK: a date that is not in the plan, so that the row counts for none of its
+    weeks."""
     if not cell.text:
         return None
-    plan, date = days.plan_days, date_of(cell)
+    plan = days.plan_days
+    date = date_of(cell)
     if date and days.monday is None:
         cell.fault(
-            f"'{date_shown(cell, date)}' is a date, and the sheet plan has none: write the week's number, from 1"
+            f"'{date_shown(cell, date)}' is a date, and the sheet plan has none: write the week's"
+            " number, from 1"
         )
     if date and days.monday:
         week = (date - days.monday).days // len(DAYS)
         return week if 0 <= week < days.weeks else NO_WEEK
     number = plan.week_number(cell.text)
+    if cell.text.isdecimal() and number == int(cell.text) - 1 and days.monday != days.sheet.monday:
+        # A bare number is of the first period of the sheet.
+        return NO_WEEK
+    if number is None and days.sheet.week_number(cell.text) is not None:
+        return NO_WEEK
     if number is None:
         if not _CALENDAR_WEEK.match(cell.text):
             cell.number()
@@ -155,21 +188,37 @@ def week_of_row(cell: SheetCell, days: Days) -> Optional[int]:
             else f", a calendar week such as CW {plan.calendar_week(days.weeks - 1)}, or a date"
         )
         cell.fault(
-            f"there is no week {cell.text}: weeks are counted from 1, so write {days.weeks} for the last one{others}"
+            f"there is no week {cell.text}: weeks are counted from 1, so write {days.weeks} for the"
+            f" last one{others}"
         )
     return number
 
 
 def week_of_row_warnings(table: Table, days: Days) -> Iterator[str]:
-    """Warnings of rows of the needs whose week the plan does not have, and of numbers that may mean another week of the calendar."""
+    """Warnings of rows of the needs whose week the plan does not have, and of numbers that may mean
+    another week of the calendar."""
     plan = days.plan_days
     for row in table.rows:
         cell = row.of("week")
         week = week_of_row(cell, days)
-        if week == NO_WEEK:
-            yield f"row {row.number}: {cell.text} is not in this plan, so the row counts for no week: correct the date, or delete the row"
-        elif week is not None and days.monday and cell.text.isdecimal():
+        if week == NO_WEEK and not _is_of_sheet(cell, days.sheet):
+            yield (
+                f"row {row.number}: {date_shown(cell, date_of(cell))} is not in this plan, so the"
+                " row counts for no week: correct the date, or delete the row"
+            )
+        elif week is not None and week != NO_WEEK and days.monday and cell.text.isdecimal():
             other = plan.week_number(f"CW {cell.text}")
             if other is not None and other != week:
                 span = plan.span([len(DAYS) * week, len(DAYS) * week + len(DAYS) - 1])
-                yield f"row {row.number}: {cell.text} is the week of the plan, {span}: write CW {cell.text} for the calendar week"
+                yield (
+                    f"row {row.number}: {cell.text} is the week of the plan, {span}: write CW"
+                    f" {cell.text} for the calendar week"
+                )
+
+
+def _is_of_sheet(cell: SheetCell, sheet: PlanDays) -> bool:
+    """Whether the week of a row is of another period of the sheet."""
+    date = date_of(cell)
+    if date is None or sheet.monday is None:
+        return True
+    return 0 <= (date - sheet.monday).days < sheet.total

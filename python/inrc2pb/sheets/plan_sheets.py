@@ -4,21 +4,26 @@ import itertools
 import re
 from typing import Dict, Iterator, List, NamedTuple, Optional, Set, Tuple
 
-from ..judging.absences import is_broken_by
+from ..judging.obstacles import Obstacle, obstacles
 from ..week.facts import WORK_DAYS
 from ..week.faults import Gathering
 from ..week.records import DAYS, Absence, Cell, Place, Request, Requirement, Scenario, in_plan
 from ..week.slots import MAX_NUMBER
 from ..week.words import readable
 from .plan_days import NO_WEEK, Days, week_of_row
+from .sheet_cells import SheetCell, about
 from .sheet_files import Book
-from .sheet_rows import SheetCell, SheetRow, Table, about
-from .ward_sheets import Ward, table_of
+from .sheet_rows import SheetRow
+from .sheet_rows import Table
+from .ward_sheets import WardTables, table_of
 
-# Reasons to be away: those that count as work, and those for which a contract does not run, as before a nurse comes or after she leaves.
+# Reasons to be away: those that count as work, and those for which a contract does not run, as
+# before a nurse comes or after she leaves.
 AWAY = ("away", "ill", "leave", "unpaid", "training")
-COUNTED, NOT_EMPLOYED = ("ill", "leave", "training"), ("away", "unpaid")
-_WISH, _NO_WISH = ("wish", "wish off", "off?"), ("", "-")
+COUNTED = ("ill", "leave", "training")
+NOT_EMPLOYED = ("away", "unpaid")
+_WISH = ("wish", "wish off", "off?")
+_NO_WISH = ("", "-")
 # A promised day off: a plan keeps it, and it counts as any other day off.
 PROMISED_OFF = "off"
 # Other words for reasons to be away, and those that the plan has.
@@ -45,8 +50,9 @@ class Held(NamedTuple):
 
 
 class WeekSheet:
-    """What the sheets say of one week. `reasons` has the word that says why a nurse is away on a day, `promised` the nurses' days off that
-    were promised, and `holidays` are days with numbers of their own, unlike those of all weeks."""
+    """What the sheets say of one week. `reasons` has the word that says why a nurse is away on a
+    day, `promised` the nurses' days off that were promised, and `holidays` are days with numbers of
+    their own, unlike those of all weeks."""
 
     def __init__(self) -> None:
         self.requirements: Dict[Place, Requirement] = {}
@@ -58,7 +64,7 @@ class WeekSheet:
         self.holidays: Set[int] = set()
 
 
-def read_weeks(book: Book, ward: Ward, days: Days, faults: Gathering) -> List[WeekSheet]:
+def read_weeks(book: Book, ward: WardTables, days: Days, faults: Gathering) -> List[WeekSheet]:
     """The weeks of the sheets needs and plan."""
     weeks = [WeekSheet() for _ in range(days.weeks)]
     before = faults.number
@@ -80,7 +86,7 @@ def read_weeks(book: Book, ward: Ward, days: Days, faults: Gathering) -> List[We
     return weeks
 
 
-def _plan_rows(days: Days, ward: Ward, faults: Gathering) -> Dict[str, SheetRow]:
+def _plan_rows(days: Days, ward: WardTables, faults: Gathering) -> Dict[str, SheetRow]:
     """The row of each nurse in the plan."""
     rows: Dict[str, SheetRow] = {}
     for row in days.plan.rows:
@@ -105,10 +111,10 @@ class _Asked(NamedTuple):
 
 
 def read_needs(
-    table: Table, ward: Ward, days: Optional[Days], weeks: List[WeekSheet], faults: Gathering
+    table: Table, ward: WardTables, days: Optional[Days], weeks: List[WeekSheet], faults: Gathering
 ) -> None:
-    """Rows without a week are for all weeks, but for the days that a row of one week has. If the days are not known, only what the rows
-    have beside their week is looked at."""
+    """Rows without a week are for all weeks, but for the days that a row of one week has. If the
+    days are not known, only what the rows have beside their week is looked at."""
     given: Dict[_Asked, List[Tuple[SheetCell, Requirement]]] = {}
     for row in table.rows:
         cells = [row.of(name.casefold()) for name in DAYS]
@@ -127,7 +133,8 @@ def read_needs(
         with faults.step():
             if asked in given and shift and skill and week != NO_WEEK:
                 row.of("shift").fault(
-                    f"{readable(shift)} {readable(skill)} has a row already: delete one, or write its week"
+                    f"{readable(shift)} {readable(skill)} has a row already: delete one, or write"
+                    " its week"
                 )
         given.setdefault(asked, numbers)
     for shift, skill in dict.fromkeys((asked.shift, asked.skill) for asked in given):
@@ -152,17 +159,21 @@ def needed(cell: SheetCell) -> Requirement:
     """The numbers of a cell: `2`, `2+1` (at least two, three are best), `2..3` or nothing."""
     if cell.text in _NO_WISH:
         return Requirement(0, 0)
-    decimal, advice = _DECIMAL.fullmatch(cell.text), _pair_for(cell.text)
+    decimal = _DECIMAL.fullmatch(cell.text)
+    advice = _pair_for(cell.text)
     if decimal and int(decimal[2]):
         low = int(decimal[1])
         cell.fault(
-            f"'{cell.text}' is no whole number, or it is two numbers: write {low} or {low + 1}, or {advice}"
+            f"'{cell.text}' is no whole number, or it is two numbers: write {low} or {low + 1}, or"
+            f" {advice}"
         )
     pair = None if decimal else _PAIR.fullmatch(cell.text)
     if not pair:
         number = cell.number(pair=advice)
         return Requirement(number, number)
-    minimum, sign, second = int(pair[1]), pair[2], int(pair[3])
+    minimum = int(pair[1])
+    sign = pair[2]
+    second = int(pair[3])
     best = minimum + second if sign == "+" else second
     if minimum > best:
         cell.fault(
@@ -174,12 +185,14 @@ def needed(cell: SheetCell) -> Requirement:
 
 
 def _pair_for(text: str) -> str:
-    """How the needs have a minimum and a best number, such as those of the text `2-3`, of which a spreadsheet may make a date, or one
-    more than the only number of the text."""
-    pair, least = _RANGE.fullmatch(text), int(about(text) or 2)
+    """How the needs have a minimum and a best number, such as those of the text `2-3`, of which a
+    spreadsheet may make a date, or one more than the only number of the text."""
+    pair = _RANGE.fullmatch(text)
+    least = int(about(text) or 2)
     minimum, best = (int(pair[1]), int(pair[2])) if pair else (least, least + 1)
     if minimum >= best:
-        minimum, best = 2, 3
+        minimum = 2
+        best = 3
     return f"{minimum}+{best - minimum} for {minimum} at least and better {best}"
 
 
@@ -191,9 +204,10 @@ def _read_day(
     weeks: List[WeekSheet],
     is_known: bool,
 ) -> None:
-    """One cell of the plan: a wish, an absence, a promised day off, or a shift that is held, whose skill the needs tell, if they are
-    known."""
-    week, day = weeks[index // len(DAYS)], index % len(DAYS)
+    """One cell of the plan: a wish, an absence, a promised day off, or a shift that is held, whose
+    skill the needs tell, if they are known."""
+    week = weeks[index // len(DAYS)]
+    day = index % len(DAYS)
     text = cell.text.casefold()
     if text in _NO_WISH:
         return
@@ -215,10 +229,10 @@ def _read_day(
 
 
 def _no_shift(text: str, scenario: Scenario) -> str:
-    """The shift types after `no`, also without a blank between; nothing if the text is something else."""
-    words, names = _NO_SHIFT.fullmatch(text), {
-        readable(shift).casefold() for shift in scenario.shift_types
-    }
+    """The shift types after `no`, also without a blank between; nothing if the text is something
+    else."""
+    words = _NO_SHIFT.fullmatch(text)
+    names = {readable(shift).casefold() for shift in scenario.shift_types}
     if not words or readable(text).casefold() in names:
         return ""
     return words[2] if text[len(words[1])] == " " or readable(words[2]).casefold() in names else ""
@@ -235,7 +249,8 @@ def _held(
     if cell.text.casefold().startswith("wish "):
         rest = cell.text[len("wish ") :]
         cell.fault(
-            f"'{cell.text}': a wish is a day off: write wish, or no {rest} if she would rather not have {rest}"
+            f"'{cell.text}': a wish is a day off: write wish, or no {rest} if she would rather not"
+            f" have {rest}"
         )
     shift = cell._replace(text=named).known("shift type", scenario.shift_types, others)
     skills = scenario.nurses[nurse].skills
@@ -262,7 +277,7 @@ def _held(
     return Held(Cell(nurse, day, shift, (asked or skills or ("",))[0]), cell)
 
 
-def check_held(ward: Ward, weeks: List[WeekSheet]) -> None:
+def check_held(ward: WardTables, weeks: List[WeekSheet]) -> None:
     """A held shift may not follow one after which it is forbidden, nor break an absence."""
     last = {past.nurse: (past.last_shift, -1) for past in ward.history.nurses.values()}
     with Gathering() as faults:
@@ -280,22 +295,27 @@ def _check_held(
     last: Dict[str, Tuple[Optional[str], int]],
 ) -> None:
     """The same for one shift. `last` has the last shift of each nurse, and its day."""
-    nurse, shift = held.row.nurse, held.row.shift
+    nurse = held.row.nurse
+    shift = held.row.shift
     before, on = last[nurse]
     last[nurse] = (shift, day)
-    if before is not None and on == day - 1 and scenario.forbids(before, shift):
+    found = obstacles(scenario, week.absences, held.row, before if on == day - 1 else None)
+    if Obstacle.FOLLOWS in found:
         held.cell.fault(
-            f"{readable(nurse)} may not work {readable(shift)} on the day after {readable(before)}: change one of the two"
+            f"{readable(nurse)} may not work {readable(shift)} on the day after"
+            f" {readable(before or '')}: change one of the two"
         )
-    if is_broken_by(week.absences, held.row):
+    if Obstacle.AWAY in found or Obstacle.NEVER in found:
         held.cell.fault(
-            f"{readable(nurse)} never works this shift or is always off on this day, by the sheet nurses: change one of the two"
+            f"{readable(nurse)} never works this shift or is always off on this day, by the sheet"
+            " nurses: change one of the two"
         )
 
 
-def held_warnings(ward: Ward, weeks: List[WeekSheet], days: Days) -> Iterator[str]:
+def held_warnings(ward: WardTables, weeks: List[WeekSheet], days: Days) -> Iterator[str]:
     """Warnings of shifts that are held on more days in a row than a contract never exceeds."""
-    plan, held = days.plan_days, in_plan([shift.row for shift in week.held] for week in weeks)
+    plan = days.plan_days
+    held = in_plan([shift.row for shift in week.held] for week in weeks)
     for nurse, contract in (
         (name, ward.scenario.contract_of(name)) for name in ward.scenario.nurses
     ):
@@ -309,5 +329,8 @@ def held_warnings(ward: Ward, weeks: List[WeekSheet], days: Days) -> Iterator[st
         ]
         if WORK_DAYS in ward.kept[ward.scenario.nurses[nurse].contract]:
             for row in (row for row in rows if len(row) > most):
-                what = f"{nurse} has {len(row)} fixed shifts in a row, {plan.span(row)}, and never works more than {most}"
+                what = (
+                    f"{nurse} has {len(row)} fixed shifts in a row, {plan.span(row)}, and never"
+                    f" works more than {most}"
+                )
                 yield f"{what}: take some of them out, or the sign ! from work max"

@@ -1,37 +1,31 @@
-"""The facts of a spreadsheet: absences, maxima that are never exceeded, why nurses are away, and contracts of those who are away: in
-proportion to the days on which they run, and without a limit of days off that leave exceeds. Warnings of what only the look of a cell says.
+"""The facts of a spreadsheet: absences, maxima that are never exceeded, and contracts of those who
+are away: in proportion to the days on which they run, and without a limit of days off that leave
+exceeds. Warnings of what only the look of a cell says.
 
-A ward's file has one contract for a whole period, so a nurse for whom another one counts gets a contract of her own.
+A ward's file has one contract for a whole period, so a nurse for whom another one counts gets a
+contract of her own.
 """
 
 from dataclasses import replace
 from typing import Collection, Iterator, List, Sequence, Tuple
 
 from ..judging.leave import PartContract
-from ..week.facts import SHIFTS, WEEKENDS, Charged, Choice, Claim, DayAway, Reasons
+from ..week.facts import SHIFTS, WEEKENDS, Charged, Choice, Claim
 from ..week.records import WEEK_DAYS, Contract, History, Limits
 from ..week.slots import MAX_CONTRACTS, MAX_NUMBER
 from .plan_days import Days
 from .plan_sheets import NOT_EMPLOYED, WeekSheet
+from .sheet_cells import letters_of, tidy
 from .sheet_files import Book
-from .sheet_rows import letters_of, tidy
-from .ward_sheets import Ward
+from .ward_sheets import WardTables
 
 # The word for days before a nurse comes or after she leaves.
 _AWAY = "away"
 
 
-def absence_reasons(weeks: List[WeekSheet]) -> Reasons:
-    """Why nurses are away."""
-    return {
-        DayAway(number, nurse, day): word
-        for number, week in enumerate(weeks, 1)
-        for (nurse, day), word in week.reasons.items()
-    }
-
-
-def claims_of(ward: Ward, history: History, weeks: List[WeekSheet]) -> List[Claim]:
-    """The absences, and the maxima that nurses never exceed, as facts about a plan that follows this history."""
+def claims_of(ward: WardTables, history: History, weeks: List[WeekSheet]) -> List[Claim]:
+    """The absences, and the maxima that nurses never exceed, as facts about a plan that follows
+    this history."""
     order = {nurse: number for number, nurse in enumerate(ward.scenario.nurses)}
     claims: List[Claim] = []
     for number, week in enumerate(weeks, 1):
@@ -56,28 +50,28 @@ def claims_of(ward: Ward, history: History, weeks: List[WeekSheet]) -> List[Clai
     return claims
 
 
-def with_part_contracts(ward: Ward, weeks: Sequence[WeekSheet]) -> Ward:
-    """The ward with a contract of its own for each nurse who is not employed on some days of the plan, or who is away for more days in a
-    row than her contract has days off in a row, or comes or leaves. A ward that has the most contracts already keeps these.
+def with_part_contracts(ward: WardTables, weeks: Sequence[WeekSheet]) -> WardTables:
+    """The ward with a contract of its own for each nurse who is not employed on some days of the
+    plan, or who is away for more days in a row than her contract has days off in a row, or comes or
+    leaves. A ward that has the most contracts already keeps these.
     """
-    contracts, nurses, kept = (
-        dict(ward.scenario.contracts),
-        dict(ward.scenario.nurses),
-        dict(ward.kept),
-    )
+    contracts = dict(ward.scenario.contracts)
+    nurses = dict(ward.scenario.nurses)
+    kept = dict(ward.kept)
     for name, nurse in ward.scenario.nurses.items():
         contract = _own_contract(ward, name, weeks)
         while contracts.get(contract.name, contract) != contract:
             contract = replace(contract, name=f"{contract.name}_")
         if contract.name in contracts or len(contracts) < MAX_CONTRACTS:
-            contracts[contract.name], kept[contract.name] = contract, ward.kept[nurse.contract]
+            contracts[contract.name] = contract
+            kept[contract.name] = ward.kept[nurse.contract]
             nurses[name] = replace(nurse, contract=contract.name)
     return ward._replace(
         scenario=replace(ward.scenario, contracts=contracts, nurses=nurses), kept=kept
     )
 
 
-def _own_contract(ward: Ward, nurse: str, weeks: Sequence[WeekSheet]) -> Contract:
+def _own_contract(ward: WardTables, nurse: str, weeks: Sequence[WeekSheet]) -> Contract:
     """The contract that counts for a nurse. One that differs has a name that says so."""
     contract = ward.scenario.contract_of(nurse)
     total = WEEK_DAYS * ward.scenario.weeks
@@ -104,14 +98,15 @@ def _own_contract(ward: Ward, nurse: str, weeks: Sequence[WeekSheet]) -> Contrac
 
 
 def _comes_or_leaves(nurse: str, weeks: Sequence[WeekSheet]) -> bool:
-    """Whether the nurse is away on the first or on the last day of the plan: her days off beside these days are no row."""
+    """Whether the nurse is away on the first or on the last day of the plan: her days off beside
+    these days are no row."""
     return _AWAY in (
         weeks[0].reasons.get((nurse, 0)),
         weeks[-1].reasons.get((nurse, WEEK_DAYS - 1)),
     )
 
 
-def _longest_absence(ward: Ward, nurse: str, weeks: Sequence[WeekSheet]) -> int:
+def _longest_absence(ward: WardTables, nurse: str, weeks: Sequence[WeekSheet]) -> int:
     """The most days in a row on which a nurse is away, with the days off before the plan."""
     away = ((number, absence) for number, week in enumerate(weeks) for absence in week.absences)
     days = {
@@ -119,7 +114,8 @@ def _longest_absence(ward: Ward, nurse: str, weeks: Sequence[WeekSheet]) -> int:
         for number, absence in away
         if (absence.nurse, absence.shift) == (nurse, None)
     }
-    longest, run = 0, ward.history.nurses[nurse].days_off
+    longest = 0
+    run = ward.history.nurses[nurse].days_off
     for day in range(WEEK_DAYS * len(weeks)):
         run = run + 1 if day in days else 0
         longest = max(longest, run)
@@ -127,24 +123,31 @@ def _longest_absence(ward: Ward, nurse: str, weeks: Sequence[WeekSheet]) -> int:
 
 
 def look_warnings(book: Book, days: Days) -> Iterator[str]:
-    """The warnings of a spreadsheet. Colors that most nurses of a day or most days of a nurse have are for the eye only."""
+    """The warnings of a spreadsheet. Colors that most nurses of a day or most days of a nurse have
+    are for the eye only."""
     for sheet, marks in book.marks.items():
         for row, column in sorted(marks.struck):
             text = tidy(book.sheets[sheet][row][column])
-            yield f"sheet {sheet}, row {row + 1}, column {letters_of(column)}: '{text}' is struck through, and counts: delete it"
+            yield (
+                f"sheet {sheet}, row {row + 1}, column {letters_of(column)}: '{text}' is struck"
+                " through, and counts: delete it"
+            )
     colored = book.marks["plan"].colored if "plan" in book.marks else ()
     for row, columns in _colored_alone(days, colored):
         where = ", ".join(map(letters_of, columns))
-        yield f"sheet plan, row {row + 1}, column {where}: a color without a word counts for nothing: write leave or wish, for example"
+        yield (
+            f"sheet plan, row {row + 1}, column {where}: a color without a word counts for nothing:"
+            " write leave or wish, for example"
+        )
 
 
 def _colored_alone(
     days: Days, colored: Collection[Tuple[int, int]]
 ) -> Iterator[Tuple[int, List[int]]]:
-    """The rows of nurses, and the columns of their empty cells that have a color, unlike most cells beside and above them."""
-    rows, columns = [row.number - 1 for row in days.plan.rows], [
-        head.column for head in days.columns
-    ]
+    """The rows of nurses, and the columns of their empty cells that have a color, unlike most cells
+    beside and above them."""
+    rows = [row.number - 1 for row in days.plan.rows]
+    columns = [head.column for head in days.columns]
     by_row = {row: sum((row, column) in colored for column in columns) for row in rows}
     by_column = {column: sum((row, column) in colored for row in rows) for column in columns}
     for nurse in days.plan.rows:

@@ -1,7 +1,7 @@
 """The sheets of a spreadsheet: an ODS or XLSX file, or a folder of CSV files, as rows of text.
 
-Only Python's library is used. A part of a file may not be larger than `MAX_BYTES`, and may not have a document type: with one a small file
-can name entities that need all memory.
+Only Python's library is used. A part of a file may not be larger than `MAX_BYTES`, and may not have
+a document type: with one a small file can name entities that need all memory.
 """
 
 import csv
@@ -16,14 +16,16 @@ from typing import Dict, Mapping, NamedTuple, Sequence
 from xml.etree import ElementTree
 from xml.parsers import expat
 
-from . import sheet_ods, sheet_xlsx
 from ..week.faults import FileFault
+from . import sheet_ods, sheet_xlsx
 from .sheet_parts import MAX_BYTES, MAX_COLUMNS, MAX_ROWS, Marks, Parts, Rows, trimmed
 
 _SEPARATORS = (";", ",", "\t")
 # The first bytes of an Excel file before 2007, and of a zip file.
-_OLD_EXCEL, _ZIP = b"\xd0\xcf\x11\xe0", b"PK"
-# The errors of the library for wrong bytes, and for elements that are nested too deep. OSError is for a place before the file's begin.
+_OLD_EXCEL = b"\xd0\xcf\x11\xe0"
+_ZIP = b"PK"
+# The errors of the library for wrong bytes, and for elements that are nested too deep. OSError is
+# for a place before the file's begin.
 _DAMAGED = (
     zipfile.BadZipFile,
     zlib.error,
@@ -40,8 +42,9 @@ _DAMAGED = (
 
 
 class Book(NamedTuple):
-    """The sheets by their names in small letters, the numbers of their hidden rows, the cells with a look that may mean something, and the
-    day with the number 0, if the file has dates as numbers."""
+    """The sheets by their names in small letters, the numbers of their hidden rows, the cells with
+    a look that may mean something, and the day with the number 0, if the file has dates as
+    numbers."""
 
     path: Path
     sheets: Dict[str, Rows]
@@ -60,7 +63,10 @@ def read_book(path: Path) -> Book:
         raise FileFault(
             path,
             0,
-            "this is an old Excel file, or one with a password: save it without one as .xlsx or .ods",
+            (
+                "this is an old Excel file, or one with a password: save it without one as .xlsx or"
+                " .ods"
+            ),
         )
     if not begin.startswith(_ZIP):
         raise FileFault(
@@ -75,7 +81,10 @@ def read_book(path: Path) -> Book:
         raise FileFault(
             path,
             0,
-            "the spreadsheet is damaged or has a password: open it in its program, and save it again without one",
+            (
+                "the spreadsheet is damaged or has a password: open it in its program, and save it"
+                " again without one"
+            ),
         ) from fault
 
 
@@ -92,7 +101,8 @@ def _read_archive(path: Path, archive: zipfile.ZipFile) -> Book:
 
 
 def _csv_files(folder: Path) -> Dict[str, Path]:
-    """The files of a folder by their sheets. LibreOffice writes the sheet plan of ward.ods to ward-plan.csv."""
+    """The files of a folder by their sheets. LibreOffice writes the sheet plan of ward.ods to
+    ward-plan.csv."""
     files: Dict[str, Path] = {}
     for file in sorted(folder.iterdir()):
         if file.suffix.lower() in (".csv", ".tsv") and file.is_file():
@@ -101,7 +111,10 @@ def _csv_files(folder: Path) -> Dict[str, Path]:
                 raise FileFault(
                     folder,
                     0,
-                    f"{files[sheet].name} and {file.name} are both the sheet {sheet}: leave one of them",
+                    (
+                        f"{files[sheet].name} and {file.name} are both the sheet {sheet}: leave one"
+                        " of them"
+                    ),
                 )
             files[sheet] = file
     if not files:
@@ -121,7 +134,8 @@ def _read_csv(path: Path) -> Rows:
     text = _text_of(path, data)
     first, _, rest = text.partition("\n")
     if first.strip().lower().startswith("sep="):
-        separator, text = (first.strip()[4:5] or ","), rest
+        separator = first.strip()[4:5] or ","
+        text = rest
     else:
         separator = max(
             _SEPARATORS, key=lambda sign: next(filter(str.strip, text.split("\n")), "").count(sign)
@@ -136,7 +150,10 @@ def _read_csv(path: Path) -> Rows:
         raise FileFault(
             path,
             0,
-            f"the file has more than {MAX_ROWS} rows or {MAX_COLUMNS} columns: delete those that are no part of the ward",
+            (
+                f"the file has more than {MAX_ROWS} rows or {MAX_COLUMNS} columns: delete those"
+                " that are no part of the ward"
+            ),
         )
     return trimmed(rows)
 
@@ -147,7 +164,10 @@ def _text_of(path: Path, data: bytes) -> str:
         raise FileFault(
             path,
             0,
-            "this is a spreadsheet with the name of a CSV file: give it itself, with its right name",
+            (
+                "this is a spreadsheet with the name of a CSV file: give it itself, with its right"
+                " name"
+            ),
         )
     codes = ["utf-16"] if data[:2] in (b"\xff\xfe", b"\xfe\xff") else ["utf-8-sig", "cp1252"]
     for code in codes:
@@ -158,5 +178,8 @@ def _text_of(path: Path, data: bytes) -> str:
     raise FileFault(
         path,
         0,
-        "the file has another encoding than UTF-8, UTF-16 and Windows-1252: save it as CSV in UTF-8",
+        (
+            "the file has another encoding than UTF-8, UTF-16 and Windows-1252: save it as CSV in"
+            " UTF-8"
+        ),
     )

@@ -3,26 +3,40 @@
 from typing import Dict, Iterator, List, Tuple
 from xml.etree.ElementTree import Element
 
-from .sheet_parts import SHEETS, Grid, Marks, Parts, Rows, formula_text, number_text, ods_space
-from .sheet_styles import Look, is_struck_in_ods, ods_looks
+from .sheet_parts import (
+    SHEETS,
+    Grid,
+    Look,
+    Marks,
+    Parts,
+    Rows,
+    formula_text,
+    number_text,
+    ods_space,
+)
 
-_TABLE, _TEXT, _OFFICE = map(ods_space, ("table", "text", "office"))
+_TABLE, _TEXT, _OFFICE, _STYLE, _FO = map(
+    ods_space, ("table", "text", "office", "style", "xsl-fo-compatible")
+)
 
 
 def sheets(parts: Parts) -> Tuple[Dict[str, Rows], Dict[str, List[int]], Dict[str, Marks]]:
-    """The sheets by their names in small letters, the numbers of their hidden rows, and the cells with a look that may mean something."""
+    """The sheets by their names in small letters, the numbers of their hidden rows, and the cells
+    with a look that may mean something."""
     rows: Dict[str, Rows] = {}
     hidden: Dict[str, List[int]] = {}
     marks: Dict[str, Marks] = {}
     content = parts.read("content.xml")
-    looks = ods_looks(content)
+    looks = _looks(content)
     for book in content.iter(_OFFICE + "spreadsheet"):
         for table in book.findall(_TABLE + "table"):
             name = table.get(_TABLE + "name", "").strip().lower()
             grid = Grid(name, parts)
             if name in SHEETS:
                 _read(table, grid, looks)
-            rows[name], hidden[name], marks[name] = grid.rows(), grid.hidden, grid.marks
+            rows[name] = grid.rows()
+            hidden[name] = grid.hidden
+            marks[name] = grid.marks
     return rows, hidden, marks
 
 
@@ -44,7 +58,8 @@ def _read(table: Element, grid: Grid, looks: Dict[str, Look]) -> None:
     number = 0
     for row in _rows(table):
         rows = range(number, number + int(row.get(_TABLE + "number-rows-repeated", "1")))
-        number, column = rows.stop, 0
+        number = rows.stop
+        column = 0
         has_values = False
         for cell in row:
             if cell.tag not in (_TABLE + "table-cell", _TABLE + "covered-table-cell"):
@@ -56,7 +71,7 @@ def _read(table: Element, grid: Grid, looks: Dict[str, Look]) -> None:
                 has_values = has_values or bool(value)
                 grid.put(rows, columns, value)
                 look = looks.get(cell.get(_TABLE + "style-name", ""), Look())
-                struck = bool(value.strip()) and (look.struck or is_struck_in_ods(cell, looks))
+                struck = bool(value.strip()) and (look.struck or _is_struck(cell, looks))
                 grid.mark(rows, columns, struck, look.colored)
                 _merge(cell, rows, columns, grid)
         if has_values and row.get(_TABLE + "visibility", "visible") != "visible":
@@ -76,7 +91,8 @@ def _merge(cell: Element, rows: range, columns: range, grid: Grid) -> None:
 
 
 def _value(cell: Element) -> str:
-    """What the cell has, not how it is shown: a number, a date, the paragraphs of a text, or what stands for a formula."""
+    """What the cell has, not how it is shown: a number, a date, the paragraphs of a text, or what
+    stands for a formula."""
     kind = cell.get(_OFFICE + "value-type", "")
     if kind == "float":
         value = number_text(cell.get(_OFFICE + "value", ""))
@@ -101,3 +117,29 @@ def _text(element: Element) -> Iterator[str]:
         else:
             yield from _text(part)
         yield part.tail or ""
+
+
+def _looks(content: Element) -> Dict[str, Look]:
+    """The looks of the styles of an ODS file, by their names."""
+    looks: Dict[str, Look] = {}
+    for style in content.iter(_STYLE + "style"):
+        lines = {
+            part.get(_STYLE + "text-line-through-style", "none")
+            for part in style.findall(_STYLE + "text-properties")
+        }
+        colors = {
+            part.get(_FO + "background-color", "transparent")
+            for part in style.findall(_STYLE + "table-cell-properties")
+        }
+        looks[style.get(_STYLE + "name", "")] = Look(
+            bool(lines - {"none"}), bool(colors - {"transparent", "#ffffff"})
+        )
+    return looks
+
+
+def _is_struck(cell: Element, looks: Dict[str, Look]) -> bool:
+    """Whether a part of the text of a cell is struck through."""
+    return any(
+        looks.get(part.get(_TEXT + "style-name", ""), Look()).struck
+        for part in cell.iter(_TEXT + "span")
+    )

@@ -10,19 +10,23 @@ from xml.parsers import expat
 from ..week.faults import FileFault
 
 MAX_BYTES = 33_554_432
-# The most elements of a part, with their attributes: the largest ward has two elements for each day of 1000 nurses in 52 weeks. A small
-# file can have so many that are empty that they need all memory.
+# The most elements of a part, with their attributes: the largest ward has two elements for each day
+# of 1000 nurses in 52 weeks. A small file can have so many that are empty that they need all
+# memory.
 MAX_ELEMENTS = 2_000_000
-# A tag, or a text, of more bytes than a program writes: all attributes of a tag are read before they can be counted.
+# A tag, or a text, of more bytes than a program writes: all attributes of a tag are read before
+# they can be counted.
 _LONG = re.compile(rb"<[^<]{1000000}")
-MAX_ROWS, MAX_COLUMNS = 5000, 1000
+MAX_ROWS = 5000
+MAX_COLUMNS = 1000
 # The sheets of a ward. Others are not read.
 SHEETS = ("shifts", "contracts", "nurses", "needs", "plan")
 # A number that is no whole one by the last of its digits only, as 0.1 * 30 is.
 NEARLY = 1e-9
 _SUM = re.compile(r"(?:of:)?=?([0-9]{1,4}\+[0-9]{1,4})")
 Rows = List[List[str]]
-# The most rows and columns of one cell that is repeated, whose look counts: more are filled outside the table.
+# The most rows and columns of one cell that is repeated, whose look counts: more are filled outside
+# the table.
 _MOST_REPEATED = 50, 400
 # The namespaces of the parts of an XLSX file, and the beginning of an ODS file's.
 MAIN_SPACES = (
@@ -31,13 +35,21 @@ MAIN_SPACES = (
 )
 
 
+class Look(NamedTuple):
+    """Whether the text of a cell is struck through, and whether the cell has a color."""
+
+    struck: bool = False
+    colored: bool = False
+
+
 def ods_space(name: str) -> str:
     """A namespace of an ODS file."""
     return f"{{urn:oasis:names:tc:opendocument:xmlns:{name}:1.0}}"
 
 
 class Marks(NamedTuple):
-    """The rows and columns of cells whose text is struck through, and of those that have a color."""
+    """The rows and columns of cells whose text is struck through, and of those that have a
+    color."""
 
     struck: Set[Tuple[int, int]]
     colored: Set[Tuple[int, int]]
@@ -67,7 +79,10 @@ class Parts:
             raise FileFault(
                 self._path,
                 0,
-                f"the spreadsheet has more than {MAX_BYTES} bytes of XML: delete what is no part of the ward",
+                (
+                    f"the spreadsheet has more than {MAX_BYTES} bytes of XML: delete what is no"
+                    " part of the ward"
+                ),
             )
         self._check(data)
         return ElementTree.fromstring(data)
@@ -75,7 +90,10 @@ class Parts:
     def _check(self, data: bytes) -> None:
         """The part has no document type, and not too many elements."""
         left = MAX_ELEMENTS
-        many = f"the spreadsheet has more than {MAX_ELEMENTS} elements of XML: delete what is no part of the ward"
+        many = (
+            f"the spreadsheet has more than {MAX_ELEMENTS} elements of XML: delete what is no part"
+            " of the ward"
+        )
 
         def count(_name: str, attributes: Dict[str, str]) -> None:
             nonlocal left
@@ -86,14 +104,18 @@ class Parts:
         if _LONG.search(data):
             raise FileFault(self._path, 0, many)
         checking = expat.ParserCreate()
-        checking.StartDoctypeDeclHandler, checking.StartElementHandler = self._refuse, count
+        checking.StartDoctypeDeclHandler = self._refuse
+        checking.StartElementHandler = count
         checking.Parse(data, True)
 
     def _refuse(self, *_words: object) -> None:
         raise FileFault(
             self._path,
             0,
-            "the spreadsheet has a document type, which no program writes: save it again with LibreOffice or Excel",
+            (
+                "the spreadsheet has a document type, which no program writes: save it again with"
+                " LibreOffice or Excel"
+            ),
         )
 
     def too_large(self, sheet: str) -> FileFault:
@@ -101,16 +123,20 @@ class Parts:
         return FileFault(
             self._path,
             0,
-            f"sheet {sheet} has more than {MAX_ROWS} rows or {MAX_COLUMNS} columns: delete those that are no part of the ward",
+            (
+                f"sheet {sheet} has more than {MAX_ROWS} rows or {MAX_COLUMNS} columns: delete"
+                " those that are no part of the ward"
+            ),
         )
 
 
 class Grid:
-    """The cells of a sheet while it is read. Cells that are merged have the value of the first of them; `hidden` has the numbers of hidden
-    rows, counted from 1."""
+    """The cells of a sheet while it is read. Cells that are merged have the value of the first of
+    them; `hidden` has the numbers of hidden rows, counted from 1."""
 
     def __init__(self, sheet: str, parts: Parts) -> None:
-        self._sheet, self._parts = sheet, parts
+        self._sheet = sheet
+        self._parts = parts
         self._cells: Dict[int, Dict[int, str]] = {}
         self._merged: List[Tuple[range, range]] = []
         self.hidden: List[int] = []
@@ -164,7 +190,8 @@ def number_text(value: str) -> str:
 
 
 def formula_text(formula: str, value: str) -> str:
-    """What stands for a formula: its value, but the formula itself if there is none, or if it is a sum such as =2+1."""
+    """What stands for a formula: its value, but the formula itself if there is none, or if it is a
+    sum such as =2+1."""
     added = _SUM.fullmatch(formula.replace(" ", ""))
     if added:
         return f"={added[1]}"

@@ -1,4 +1,5 @@
-"""An example spreadsheet for `inrc2pb-plan`, as an ODS file, whose plan begins on a Monday that is given."""
+"""An example spreadsheet for `inrc2pb-plan`, as an ODS file, whose plan begins on a Monday that is
+given."""
 
 import datetime
 import zipfile
@@ -22,7 +23,10 @@ def _days(*weeks: str) -> List[str]:
 
 # Columns with the head `note` are not read.
 KEPT_NOTE = "22! in place of 22: she never has more; so may work max and weekends"
-HOLIDAY_NOTE = "if {} is a bank holiday: one more row, with {} for week, Day for shift, Nurse for skill, and 0+1 for Fri only"
+HOLIDAY_NOTE = (
+    "if {} is a bank holiday: one more row, with {} for week, Day for shift, Nurse for skill, and"
+    " 0+1 for Fri only"
+)
 # The plan of the example has four weeks, and its days have no dates.
 EXAMPLE: Dict[str, Rows] = {
     "shifts": [
@@ -60,6 +64,7 @@ EXAMPLE: Dict[str, Rows] = {
             "days on it",
             "days of work",
             "days off",
+            "was",
         ),
         ("Amara", "Full", "Charge, Nurse", "", "", 0, 0, "Day", 2, 2, 0),
         ("Bruno", "Full", "Charge, Nurse", "", "", 0, 0, "", 0, 0, 2),
@@ -90,14 +95,17 @@ EXAMPLE: Dict[str, Rows] = {
 _TYPE = "application/vnd.oasis.opendocument.spreadsheet"
 _NAMES = ("office", "table", "text", "manifest", "style", "datastyle")
 _SPACES = " ".join(
-    f'xmlns:{name.replace("datastyle", "number")}="urn:oasis:names:tc:opendocument:xmlns:{name}:1.0"'
+    f'xmlns:{name.replace("datastyle", "number")}='
+    f'"urn:oasis:names:tc:opendocument:xmlns:{name}:1.0"'
     for name in _NAMES
 )
 # How a cell shows a date: as 2026-11-30.
 _DATE_STYLE = (
-    '<number:date-style style:name="days"><number:year number:style="long"/><number:text>-</number:text>'
-    '<number:month number:style="long"/><number:text>-</number:text><number:day number:style="long"/></number:date-style>'
-    '<style:style style:name="day" style:family="table-cell" style:data-style-name="days"/>'
+    '<number:date-style style:name="days"><number:year'
+    ' number:style="long"/><number:text>-</number:text><number:month'
+    ' number:style="long"/><number:text>-</number:text><number:day'
+    ' number:style="long"/></number:date-style><style:style style:name="day"'
+    ' style:family="table-cell" style:data-style-name="days"/>'
 )
 _HEAD = '<?xml version="1.0" encoding="UTF-8"?>\n'
 
@@ -120,8 +128,8 @@ def dated_example(monday: datetime.date) -> Dict[str, Rows]:
 
 
 def write_template(path: Path, monday: datetime.date) -> None:
-    """Writes the example, whose plan begins on this Monday. Raises Misuse if there is a file of this name, since a ward may have changed
-    it."""
+    """Writes the example, whose plan begins on this Monday. Raises Misuse if there is a file of
+    this name, since a ward may have changed it."""
     if path.suffix.lower() != ".ods":
         raise Misuse(
             f"{path}: the example is an .ods file, which Excel opens too: end its name with .ods"
@@ -143,11 +151,17 @@ def write_template(path: Path, monday: datetime.date) -> None:
             archive.writestr(zipfile.ZipInfo("mimetype"), _TYPE)
             archive.writestr(
                 "META-INF/manifest.xml",
-                f'{_HEAD}<manifest:manifest {_SPACES} manifest:version="1.3">{manifest}</manifest:manifest>',
+                (
+                    f"{_HEAD}<manifest:manifest"
+                    f' {_SPACES} manifest:version="1.3">{manifest}</manifest:manifest>'
+                ),
             )
             archive.writestr(
                 "content.xml",
-                f'{_HEAD}<office:document-content {_SPACES} office:version="1.3">{content}</office:document-content>',
+                (
+                    f"{_HEAD}<office:document-content"
+                    f' {_SPACES} office:version="1.3">{content}</office:document-content>'
+                ),
             )
     except FileExistsError:
         raise

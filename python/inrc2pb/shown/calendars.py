@@ -1,4 +1,5 @@
-"""A calendar file for each nurse, as RFC 5545 defines it: shifts with their times, else with their days, in local time."""
+"""A calendar file for each nurse, as RFC 5545 defines it: shifts with their times, else with their
+days, in local time."""
 
 import datetime
 import re
@@ -19,18 +20,20 @@ from typing import (
 )
 
 from ..week.dates import DAY, Times
+from ..week.writing import write_own_text
 from .markup import allowed
 from .roster_view import ShownCell, RosterView
-from ..week.writing import write_own_text
 
 # The maximum number of bytes of a line.
 _LINE = 75
-# The second from which the numbers of calendars count, so that they stay below the most that a calendar may have, 2,147,483,647.
+# The second from which the numbers of calendars count, so that they stay below the most that a
+# calendar may have, 2,147,483,647.
 _FIRST_ISSUE = datetime.datetime(2025, 1, 1, tzinfo=datetime.timezone.utc).timestamp()
 
 
 class Issue(NamedTuple):
-    """A calendar that takes the place of older ones: its number, which is above theirs, and the days on which they had a nurse's shift."""
+    """A calendar that takes the place of older ones: its number, which is above theirs, and the
+    days on which they had a nurse's shift."""
 
     number: int
     before: Mapping[str, Collection[datetime.date]] = {}
@@ -62,7 +65,8 @@ def _text(value: str) -> str:
 
 def _folded(line: str) -> str:
     """A content line, folded between letters."""
-    parts, size = [""], 0
+    parts = [""]
+    size = 0
     for letter in line:
         width = len(letter.encode())
         if size + width > _LINE:
@@ -106,8 +110,9 @@ def calendar(
     times: Mapping[str, Times],
     issue: Optional[Issue] = None,
 ) -> str:
-    """The text of a nurse's calendar. One without shifts says so, since a calendar may not be empty; an issue of one cancels this, so that
-    a later one has nothing to take back. Shifts of older issues are cancelled on days on which this one has none.
+    """The text of a nurse's calendar. One without shifts says so, since a calendar may not be
+    empty; an issue of one cancels this, so that a later one has nothing to take back. Shifts of
+    older issues are cancelled on days on which this one has none.
     """
     ward = allowed(view.name)
     stamp = [f"DTSTAMP:{_day(monday)}T000000Z", *([f"SEQUENCE:{issue.number}"] if issue else [])]
@@ -144,7 +149,8 @@ def file_names(nurses: Iterable[str]) -> Dict[str, str]:
     taken = set()
     for nurse in nurses:
         plain = re.sub(r'[/\\:*?"<>|\ufffd\t\n\r]|^\.', "_", allowed(nurse))[:60]
-        name, number = plain, 1
+        name = plain
+        number = 1
         while name.lower() in taken:
             number += 1
             name = f"{plain}-{number}"
@@ -160,7 +166,8 @@ def write_calendars(
     times: Mapping[str, Times],
     issue: Optional[Issue] = None,
 ) -> None:
-    """Writes a calendar for each nurse, also for those of older issues, to the folder, which is made if it does not exist."""
+    """Writes a calendar for each nurse, also for those of older issues, to the folder, which is
+    made if it does not exist."""
     nurses = dict.fromkeys((*view.nurses, *(issue.before if issue else ())))
     texts = {
         name: calendar(view, nurse, monday, times, issue)

@@ -1,6 +1,8 @@
-"""What differs in two rosters of the same weeks, in sentences: shifts, and charges that are saved or added; and swaps of two nurses' days.
+"""What differs in two rosters of the same weeks, in sentences: shifts, and charges that are saved
+or added; and swaps of two nurses' days.
 
-The lines of a ward's plans are made of the same sentences as those of rosters that were given as files.
+The lines of a ward's plans are made of the same sentences as those of rosters that were given as
+files.
 """
 
 import collections
@@ -18,7 +20,8 @@ from .roster_view import RosterView, ShownCell
 
 
 def shifts_text(cells: Iterable[Union[Cell, ShownCell]], away: str = OFF) -> str:
-    """A nurse's day in words: her shift types and skills, or, if she has none, why she is away or that she is off."""
+    """A nurse's day in words: her shift types and skills, or, if she has none, why she is away or
+    that she is off."""
     return " and ".join(f"{cell.shift} {cell.skill}" for cell in cells) or away
 
 
@@ -28,7 +31,8 @@ def change_text(who: str, now: str, before: str) -> str:
 
 
 class Change(NamedTuple):
-    """A nurse's day whose cells differ in two rosters, and each of the two in words: why she is away, if she is."""
+    """A nurse's day whose cells differ in two rosters, and each of the two in words: why she is
+    away, if she is."""
 
     week: int
     nurse: str
@@ -45,7 +49,8 @@ def changes(old: RosterView, new: RosterView) -> List[Change]:
     for week in range(len(new.weeks)):
         for day in range(WEEK_DAYS):
             for nurse in dict.fromkeys([*new.nurses, *old.nurses]):
-                before, now = old.cells(week, nurse, day), new.cells(week, nurse, day)
+                before = old.cells(week, nurse, day)
+                now = new.cells(week, nurse, day)
                 if {cell[:2] for cell in before} != {cell[:2] for cell in now}:
                     texts = (_day_text(view, week, nurse, day) for view in (old, new))
                     differing.append(Change(week, nurse, day, before, now, *texts))
@@ -79,8 +84,10 @@ class Charged(NamedTuple):
 
 
 def charge_lines(old: Sequence[Charged], new: Sequence[Charged]) -> Iterator[str]:
-    """A line for each charge that only the old roster has, which is saved, and then for each that only the new one has."""
-    before, now = collections.Counter(old), collections.Counter(new)
+    """A line for each charge that only the old roster has, which is saved, and then for each that
+    only the new one has."""
+    before = collections.Counter(old)
+    now = collections.Counter(new)
     yield from (f"{-charge.cost:+5}  {charge.words}" for charge in (before - now).elements())
     yield from (f"{charge.cost:+5}  {charge.words}" for charge in (now - before).elements())
 
@@ -94,11 +101,12 @@ def sum_text(before: int, now: int, words: str) -> str:
 
 
 def swapped(view: RosterView, swaps: Sequence[Tuple[str, str]]) -> RosterView:
-    """The roster of one week after swaps in turn: two nurses and days, as `Chen Fri` and `Grace Fri`, get each other's cells.
-    Raises Misuse if one of them is not in the roster."""
+    """The roster of one week after swaps in turn: two nurses and days, as `Chen Fri` and
+    `Grace Fri`, get each other's cells. Raises Misuse if one of them is not in the roster."""
     if len(view.weeks) != 1:
         raise Misuse(
-            "swap is for one roster: change a copy of one of these, and give the others to why, with --old"
+            "swap is for one roster: change a copy of one of these, and give the others to why,"
+            " with --old"
         )
     cells = list(view.weeks[0].cells)
     for pair in swaps:

@@ -29,8 +29,8 @@ def joined(*parts: str) -> Markup:
 
 
 def element(tag: str, *inside: str, **attributes: Optional[str]) -> Markup:
-    """An element. In the names of attributes a line is written `_`, as in `aria_label`, and a last one is left out, as in `class_`.
-    Attributes that are None are left out too."""
+    """An element. In the names of attributes a line is written `_`, as in `aria_label`, and a last
+    one is left out, as in `class_`. Attributes that are None are left out too."""
     words = [
         f' {name.rstrip("_").replace("_", "-")}="{escaped(value)}"'
         for name, value in attributes.items()

@@ -49,6 +49,7 @@ td small { font-size: .82em }
 .many thead .mark { display: block; margin: 0; line-height: .7 }
 .many .away { font-size: .7em; letter-spacing: -.03em }
 .mark { font-weight: bold; margin-left: .25em }
+.many .away + .mark { display: block; margin: 0; line-height: .8 }
 .changed { border: 2.5px dashed #111 }
 .few { border: 2.5px solid #111 }
 .coverage small { white-space: nowrap }
@@ -80,7 +81,8 @@ caption, h2, summary, .charges p { break-after: avoid }
 
 
 def page_style() -> Markup:
-    """The style, with the colors of the shift types. Browsers print them only if `print-color-adjust` says so."""
+    """The style, with the colors of the shift types. Browsers print them only if
+    `print-color-adjust` says so."""
     colors = "".join(
         f".s{number} {{ background: {color}; color: {ink_on(color)} }}\n"
         for number, color in enumerate(COLORS)
@@ -96,7 +98,10 @@ def title(page: Content) -> str:
     last = page.monday + (7 * len(view.weeks) - 1) * (page.monday.resolution)
     year = f" {page.monday.year}" if page.monday.year != last.year else ""
     number = f" (calendar week {last.isocalendar()[1]})" if len(view.weeks) == 1 else ""
-    return f"{readable(page.name or view.name)}, {date_text(page.monday)}{year} to {date_text(last)} {last.year}{number}"
+    return (
+        f"{readable(page.name or view.name)}, {date_text(page.monday)}{year} to"
+        f" {date_text(last)} {last.year}{number}"
+    )
 
 
 def _summary(page: Content) -> Iterator[str]:
@@ -114,7 +119,9 @@ def _summary(page: Content) -> Iterator[str]:
         if page.as_of
         else ""
     )
-    yield f"{named}{plural(len(view.nurses), 'nurse')}, {plural(count, 'shift')}{cost}{before}{made}"
+    yield (
+        f"{named}{plural(len(view.nurses), 'nurse')}, {plural(count, 'shift')}{cost}{before}{made}"
+    )
     # Only a page with costs explains the rules.
     yield from plain_breach_lines(view) if page.only_table else breach_lines(view)
     yield from () if page.only_table else page.notes
@@ -182,12 +189,10 @@ def charges_section(page: Content) -> Markup:
 
 def _details(page: Content) -> List[Markup]:
     """The sections below the roster. In print the first of them begins a page."""
-    changed, counted, wished, parts = (
-        changes_table(page),
-        totals_table(page),
-        wishes_table(page),
-        [],
-    )
+    changed = changes_table(page)
+    counted = totals_table(page)
+    wished = wishes_table(page)
+    parts = []
     if page.old:
         nothing = element("p", f"Nothing is {page.changed}.")
         parts.append(section("Changes", changed or nothing, class_="changes sheet"))

@@ -1,4 +1,5 @@
-"""What a page of a roster shows, and the parts of which its tables are made: captions, heads of rows and columns, and days."""
+"""What a page of a roster shows, and the parts of which its tables are made: captions, heads of
+rows and columns, and days."""
 
 import datetime
 from dataclasses import dataclass, field
@@ -11,19 +12,24 @@ from .markup import Markup, element, hidden, joined, shown
 from .roster_view import AWAY, HELD, RosterView
 from .totals import Sums
 
-HOLIDAY, HOLIDAY_MEANING = "\u2022", "other numbers of nurses are needed, as on a bank holiday"
+HOLIDAY = "\u2022"
+HOLIDAY_MEANING = "other numbers of nurses are needed, as on a bank holiday"
 
 
 @dataclass(frozen=True)
 class Content:
-    """What a page shows: the roster, an older one, the date of the first Monday, and the times of shift types, as far as they are known.
+    """What a page shows: the roster, an older one, the date of the first Monday, and the times of
+    shift types, as far as they are known.
 
-    `only_table` is for a wall: nothing on what the roster costs, nor on wishes and held shifts. `link` has the address of a nurse's day
-    in a week of the table, if its cells are links. `name` is that of the ward for people, if the roster's own one is not, and `since`
-    says which the older roster is. `holidays` are days from the first Monday on with numbers of their own, as bank holidays have, `as_of`
-    says when the page was made, `notes` are lines on what to look at, `swapped` has the weeks of the table, nurses and days of swaps that
-    were written, `promised` those of days that were promised, and `plan` is the name of the plan of a ward's folder that the page shows.
-    `sums` has what each nurse has in the whole period, and `all_sums` in that and all earlier ones of the folder, if there are some.
+    `only_table` is for a wall: nothing on what the roster costs, nor on wishes and held shifts.
+    `link` has the address of a nurse's day in a week of the table, if its cells are links. `name`
+    is that of the ward for people, if the roster's own one is not, and `since` says which the older
+    roster is. `holidays` are days from the first Monday on with numbers of their own, as bank
+    holidays have, `as_of` says when the page was made, `notes` are lines on what to look at,
+    `swapped` has the weeks of the table, nurses and days of swaps that were written, `promised`
+    those of days that were promised, and `plan` is the name of the plan of a ward's folder that the
+    page shows. `sums` has what each nurse has in the whole period, and `all_sums` in that and all
+    earlier ones of the folder, if there are some.
     """
 
     view: RosterView
@@ -67,7 +73,8 @@ class Content:
         return (week, nurse, day) in self.promised
 
     def marks(self, week: int, nurse: str, day: int, marks: str) -> str:
-        """Those marks of a nurse's shift that the page shows. One that is promised has a sign for that."""
+        """Those marks of a nurse's shift that the page shows. One that is promised has a sign for
+        that."""
         shown_marks = (mark for mark in marks if mark == AWAY or not self.only_table)
         return "".join(
             mark for mark in shown_marks if mark != HELD or not self.is_promised(week, nurse, day)

@@ -1,5 +1,5 @@
-"""The tables of a page below its roster: totals, sums, wishes, changes and coverage. They mean the same without colors and without
-sight."""
+"""The tables of a page below its roster: totals, sums, wishes, changes and coverage. They mean the
+same without colors and without sight."""
 
 from typing import Dict, Iterator, Optional, Sequence
 
@@ -16,7 +16,8 @@ MINUS = "\u2212"
 
 def _left(total: Totals, is_last: bool) -> str:
     """The shifts that are left in the period, or how the contract is missed."""
-    minimum, maximum = total.contract.minimum - total.shifts, total.contract.maximum - total.shifts
+    minimum = total.contract.minimum - total.shifts
+    maximum = total.contract.maximum - total.shifts
     if maximum < 0:
         return f"{-maximum} too many"
     if is_last:
@@ -26,7 +27,8 @@ def _left(total: Totals, is_last: bool) -> str:
 
 def totals_table(page: Content) -> Optional[Markup]:
     """The totals of each nurse, if they are known."""
-    view, by_nurse = page.view, totals(page.view)
+    view = page.view
+    by_nurse = totals(page.view)
     if not by_nurse:
         return None
     is_last = any(week.week and week.week.is_last for week in view.weeks[-1:])
@@ -63,15 +65,20 @@ def totals_table(page: Content) -> Optional[Markup]:
             numbers.append(str(sum(view.costs[nurse].values())))
         rows.append([first(readable(nurse)), *(element("td", number) for number in numbers)])
     head = joined(*map(column, [*heads, *(["cost"] if view.has_costs else [])]))
-    caption = "Totals: shifts and weekends in the period until now, shifts of each type and wishes in these weeks"
+    caption = (
+        "Totals: shifts and weekends in the period until now, shifts of each type and wishes in"
+        " these weeks"
+    )
     return table(caption, [head], rows, "totals")
 
 
 def sums_table(page: Content) -> Optional[Markup]:
-    """What each nurse has in the period, and beside it in this and all earlier periods, if they are known."""
+    """What each nurse has in the period, and beside it in this and all earlier periods, if they are
+    known."""
     if not page.sums:
         return None
-    has_times, groups = bool(page.times), [page.sums, *([page.all_sums] if page.all_sums else [])]
+    has_times = bool(page.times)
+    groups = [page.sums, *([page.all_sums] if page.all_sums else [])]
     heads = sum_heads(has_times)
     names = ["this period", "all periods"][: len(groups)]
     above = joined(
@@ -135,13 +142,15 @@ def changes_table(page: Content) -> Optional[Markup]:
 
 def _covered(place: Covered, day: int) -> Markup:
     """The number of nurses, and beside it how many are missing or too many."""
-    words, sign = "", ""
+    words = ""
+    sign = ""
     if place.number < place.wanted:
         low = place.number < place.minimum
         words = f"{place.wanted - place.number} too few{', below the minimum' if low else ''}"
         sign = f"{MINUS}{place.wanted - place.number}{'!' if low else ''}"
     elif place.number > place.wanted:
-        words, sign = f"{place.number - place.wanted} too many", f"+{place.number - place.wanted}"
+        words = f"{place.number - place.wanted} too many"
+        sign = f"+{place.number - place.wanted}"
     range_ = f"{place.minimum}\u2013{place.optimal}" if any(place[1:]) else ""
     kinds = [weekend_class(day), "few" if sign.startswith(MINUS) else "more" if sign else None]
     parts = [element("b", str(place.number))] if any(place) else []

@@ -7,7 +7,8 @@ from typing import Dict, Iterable, List, NamedTuple, Optional, Sequence
 from ..week.faults import Misuse, printable
 from ..week.slots import text_of
 
-# What a report has: the penalty of a week or the sum of a period, the lower bound, and the words of a proof.
+# What a report has: the penalty of a week or the sum of a period, the lower bound, and the words of
+# a proof.
 _PENALTY = re.compile(r"^(?:penalty|period) +([0-9]+)\b", re.MULTILINE)
 _BOUND = re.compile(r"^lower bound ([0-9]+)\b", re.MULTILINE)
 _PROVED = re.compile(r"^(?:no roster|lower bound ).*costs less, proved$", re.MULTILINE)
@@ -15,8 +16,8 @@ _HEAD = ("report", "penalty", "lower bound", "gap %", "the best", "seconds")
 
 
 class Result(NamedTuple):
-    """What a report says: its name, the penalty and the lower bound, whether it is proved that no roster costs less, and the seconds of
-    the run, if they are known."""
+    """What a report says: its name, the penalty and the lower bound, whether it is proved that no
+    roster costs less, and the seconds of the run, if they are known."""
 
     name: str
     penalty: Optional[int]
@@ -27,13 +28,15 @@ class Result(NamedTuple):
 
 def result_of(name: str, text: str, seconds: Optional[float] = None) -> Result:
     """The result in the text of a report; the last numbers of each kind count."""
-    penalties, bounds = _PENALTY.findall(text), _BOUND.findall(text)
+    penalties = _PENALTY.findall(text)
+    bounds = _BOUND.findall(text)
     penalty, bound = (int(numbers[-1]) if numbers else None for numbers in (penalties, bounds))
     return Result(name, penalty, bound, _PROVED.search(text) is not None, seconds)
 
 
 def read_results(reports: Sequence[Path], log: Optional[Path]) -> List[Result]:
-    """The results of reports. `log` is the log of GNU parallel that has their seconds, in the order of the reports' names."""
+    """The results of reports. `log` is the log of GNU parallel that has their seconds, in the order
+    of the reports' names."""
     seconds = _seconds_of(log) if log else {}
     return [result_of(str(path), text_of(path), seconds.get(_number_of(path))) for path in reports]
 

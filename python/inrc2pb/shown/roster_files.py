@@ -1,4 +1,5 @@
-"""Reads the files of a table: rosters of one or more weeks, and what else is known of these weeks."""
+"""Reads the files of a table: rosters of one or more weeks, and what else is known of these
+weeks."""
 
 from dataclasses import dataclass, field, replace
 from pathlib import Path
@@ -20,7 +21,8 @@ from .roster_view import RosterView, WeekView
 class RosterFiles:
     """The files of a table: one roster for each week, and what else is known of these weeks.
 
-    `fixes` has the fix files of some weeks by their index, from 0; `given` has the facts that plans keep.
+    `fixes` has the fix files of some weeks by their index, from 0; `given` has the facts that plans
+    keep.
     """
 
     rosters: Sequence[Path]
@@ -85,11 +87,9 @@ def read_view(files: RosterFiles) -> RosterView:
             warnings=warnings,
         )
     shown = [cell for view in views for cell in view.cells]
-    nurses, shifts, skills = (
-        (row.nurse for row in shown),
-        (row.shift for row in shown),
-        (row.skill for row in shown),
-    )
+    nurses = (row.nurse for row in shown)
+    shifts = (row.shift for row in shown)
+    skills = (row.skill for row in shown)
     return RosterView(
         solutions[0].scenario, _each_once(nurses), _each_once(shifts), _each_once(skills), views
     )
@@ -106,11 +106,13 @@ def read_old(files: RosterFiles, rosters: Sequence[Path]) -> RosterView:
         before, now = (read_solution(path, None) for path in (old, new))
         if before.scenario != now.scenario:
             raise Misuse(
-                f"{old} is a roster of '{before.scenario}', and {new} of '{now.scenario}': give two rosters of one ward"
+                f"{old} is a roster of '{before.scenario}', and {new} of '{now.scenario}': give two"
+                " rosters of one ward"
             )
         if before.week != now.week:
             raise Misuse(
-                f"{old} is a roster of week {before.week}, and {new} of week {now.week}: give two rosters of one week"
+                f"{old} is a roster of week {before.week}, and {new} of week {now.week}: give two"
+                " rosters of one week"
             )
     return replace(read_view(replace(files, rosters=rosters)), warnings=())
 
@@ -125,7 +127,8 @@ def _check_numbers(files: RosterFiles) -> None:
     count = len(files.rosters)
     if len(files.weeks) not in (0, count):
         raise Misuse(
-            f"--week has {plural(len(files.weeks), 'file')} for {plural(count, 'roster')}: give one for each, in their order"
+            f"--week has {plural(len(files.weeks), 'file')} for {plural(count, 'roster')}: give one"
+            " for each, in their order"
         )
     if len(files.histories) not in (0, 1, count):
         raise Misuse(
@@ -153,7 +156,8 @@ def _histories(
         last = len(histories) - 1
         if histories[last].week + 1 >= scenario.weeks:
             raise Misuse(
-                f"{files.rosters[last]}: {week_name(histories[last].week)} is the last of {scenario.weeks}: give --his for each roster"
+                f"{files.rosters[last]}: {week_name(histories[last].week)} is the last of"
+                f" {scenario.weeks}: give --his for each roster"
             )
         try:
             histories.append(next_history(scenario, histories[last], solutions[last].cells))
@@ -168,7 +172,8 @@ def _other_weeks(
     scenario: Scenario,
     histories: Sequence[History],
 ) -> Iterator[str]:
-    """A warning for each file, one of each week, that is of another ward or week than it is shown with."""
+    """A warning for each file, one of each week, that is of another ward or week than it is shown
+    with."""
     for index, path in enumerate(paths):
         other = (
             other_week(path, scenario, histories[index] if histories else None, texts[path])

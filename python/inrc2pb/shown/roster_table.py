@@ -1,4 +1,5 @@
-"""The table of the roster on a page, and the legend of its signs. It means the same without colors and without sight."""
+"""The table of the roster on a page, and the legend of its signs. It means the same without colors
+and without sight."""
 
 from typing import Dict, Iterator, List, Mapping, Sequence
 
@@ -25,7 +26,8 @@ WEEKS_OF_ROSTER = 4
 # The most nurses whose rows are high in print, so that a table fits one page.
 MOST_ROOMY = 25
 CHANGED = "\u0394"
-# The reasons for days off that are none to be away: those on which a nurse never works, and promised ones.
+# The reasons for days off that are none to be away: those on which a nurse never works, and
+# promised ones.
 _DAYS_OFF = (OFF, "promised")
 WEEKENDS = "WE"
 # The short heads of sums on a wall, and what they mean.
@@ -43,12 +45,15 @@ MEANINGS_OF_SUMS = {
     "weekends": "weekends with work",
     "wishes granted": "wishes granted, of all",
 }
-SWAPPED, SWAPPED_MEANING = "\u21c4", "a swap that was written"
-PROMISED, PROMISED_MEANING = "\u2713", "promised: swaps and later plans keep it"
+SWAPPED = "\u21c4"
+SWAPPED_MEANING = "a swap that was written"
+PROMISED = "\u2713"
+PROMISED_MEANING = "promised: swaps and later plans keep it"
 
 
 def _small(names: Dict[str, str]) -> Dict[str, str]:
-    """Short names of skills in small letters, so that none looks like a shift type, if they still differ."""
+    """Short names of skills in small letters, so that none looks like a shift type, if they still
+    differ."""
     small = {name: short.lower() for name, short in names.items()}
     return small if len(set(small.values())) == len(names) else names
 
@@ -57,14 +62,17 @@ class RosterTable:
     """The table of the roster."""
 
     def __init__(self, page: Content) -> None:
-        self.page, self.view = page, page.view
+        self.page = page
+        self.view = page.view
         self.single = len(self.view.weeks) == 1
-        self.short, self.skills = cuts(self.view.shifts, 1), _small(cuts(self.view.skills, 1))
+        self.short = cuts(self.view.shifts, 1)
+        self.skills = _small(cuts(self.view.skills, 1))
         self.changed = {(change.week, change.nurse, change.day): change for change in page.changes}
 
     def tables(self) -> Iterator[Markup]:
-        """A table for each four weeks. On a wall the last one has the sums of each nurse in the period beside it, or, if they are not
-        known, her shifts of each type and her weekends in these weeks."""
+        """A table for each four weeks. On a wall the last one has the sums of each nurse in the
+        period beside it, or, if they are not known, her shifts of each type and her weekends in
+        these weeks."""
         groups = groups_of_weeks(len(self.view.weeks), WEEKS_OF_ROSTER)
         counts = self._counts() if self.page.only_table else {}
         for weeks in groups:
@@ -96,8 +104,8 @@ class RosterTable:
             )
 
     def _sums(self) -> List[str]:
-        """The heads of the columns with sums: short ones of those of the period, or names of shift types, as in the cells, and that of
-        weekends."""
+        """The heads of the columns with sums: short ones of those of the period, or names of shift
+        types, as in the cells, and that of weekends."""
         if self.page.sums:
             return [SUM_HEADS[head] for head in sum_heads(bool(self.page.times))]
         return [
@@ -114,7 +122,8 @@ class RosterTable:
         return {nurse: list(map(str, numbers)) for nurse, numbers in worked(self.view).items()}
 
     def _name(self, nurse: str, week: int) -> Markup:
-        """The head of a nurse's row. By keyboard one goes from name to name, and not from cell to cell."""
+        """The head of a nurse's row. By keyboard one goes from name to name, and not from cell to
+        cell."""
         if not self.page.link:
             return first(readable(nurse))
         return element(
@@ -155,7 +164,8 @@ class RosterTable:
         return element("td", *parts, class_=" ".join(kind for kind in kinds if kind) or None)
 
     def _why(self, week: int, nurse: str, day: int) -> str:
-        """Why a nurse is away on a day. On a wall nobody reads why, and a day off is one for whatever reason."""
+        """Why a nurse is away on a day. On a wall nobody reads why, and a day off is one for
+        whatever reason."""
         why = self.view.reason(week, nurse, day)
         if self.page.only_table:
             return "" if why in _DAYS_OFF else "away"
@@ -163,7 +173,8 @@ class RosterTable:
 
     def _shift(self, cell: ShownCell, marks: str) -> Markup:
         """A shift, and its skill, with these marks."""
-        shift, skill = readable(cell.shift), readable(cell.skill)
+        shift = readable(cell.shift)
+        skill = readable(cell.skill)
         signs = [
             joined(shown(mark, class_="mark"), hidden(f", {MEANINGS[mark]}")) for mark in marks
         ]

@@ -9,7 +9,8 @@ from .roster_view import RosterView
 from .totals import HEADS, LEGEND, totals
 from .why import costs_text
 
-# Colors that color-blind eyes distinguish (Okabe and Ito), and their numbers in a terminal. Shift types from the ninth on have them again.
+# Colors that color-blind eyes distinguish (Okabe and Ito), and their numbers in a terminal. Shift
+# types from the ninth on have them again.
 COLORS = ("#e69f00", "#56b4e9", "#0072b2", "#009e73", "#f0e442", "#cc79a7", "#d55e00", "#999999")
 TERMINAL_COLORS = (214, 74, 25, 36, 227, 175, 166, 246)
 # A nurse who is away, in a table of several weeks.
@@ -17,7 +18,8 @@ AWAY = "-"
 
 
 def ink_on(color: str) -> str:
-    """Black or white, whichever has the greater contrast with the color (by its luminance, as WCAG defines it)."""
+    """Black or white, whichever has the greater contrast with the color (by its luminance, as WCAG
+    defines it)."""
     parts = [int(color[index : index + 2], 16) / 255 for index in (1, 3, 5)]
     red, green, blue = (
         part / 12.92 if part <= 0.04045 else ((part + 0.055) / 1.055) ** 2.4 for part in parts
@@ -26,13 +28,16 @@ def ink_on(color: str) -> str:
 
 
 def columns(text: str) -> int:
-    """The columns that a text takes: a full-width letter, as of Chinese, takes two, and an accent of its own none."""
+    """The columns that a text takes: a full-width letter, as of Chinese, takes two, and an accent
+    of its own none."""
     return sum(
-        0
-        if unicodedata.combining(letter)
-        else 2
-        if unicodedata.east_asian_width(letter) in "WF"
-        else 1
+        (
+            0
+            if unicodedata.combining(letter)
+            else 2
+            if unicodedata.east_asian_width(letter) in "WF"
+            else 1
+        )
         for letter in text
     )
 
@@ -43,7 +48,8 @@ def _filled(text: str, width: int) -> str:
 
 
 def cuts(names: Sequence[str], minimum: int) -> Dict[str, str]:
-    """Each name cut to the same length: the shortest, from `minimum` on, at which all of them differ."""
+    """Each name cut to the same length: the shortest, from `minimum` on, at which all of them
+    differ."""
     length = minimum
     while len({name[:length] for name in names}) < len(set(names)):
         length += 1
@@ -70,11 +76,13 @@ def _with_weekend_apart(cells: Sequence[str], gap: str) -> str:
 
 
 class TextTable:
-    """The table of a roster. Several weeks stand next to one another, with shift types only, as short as they differ. With colors it is
-    for a terminal, so names have codes in place of signs that a terminal would obey."""
+    """The table of a roster. Several weeks stand next to one another, with shift types only, as
+    short as they differ. With colors it is for a terminal, so names have codes in place of signs
+    that a terminal would obey."""
 
     def __init__(self, view: RosterView, colored: bool = False) -> None:
-        self.view, self.colored = view, colored
+        self.view = view
+        self.colored = colored
         self.single = len(view.weeks) == 1
         self.nurses = self._cuts(view.nurses, 12)
         self.shifts = self._cuts(view.shifts, 5 if self.single else 1)
@@ -99,7 +107,8 @@ class TextTable:
         return {name: self._harmless(cut) for name, cut in cuts(names, minimum).items()}
 
     def _right(self) -> List[List[str]]:
-        """The columns right of the days, each with its head and a text for each nurse: totals and costs, if they are known."""
+        """The columns right of the days, each with its head and a text for each nurse: totals and
+        costs, if they are known."""
         rows = []
         counted = totals(self.view)
         if counted:
@@ -118,7 +127,8 @@ class TextTable:
                 [
                     "cost",
                     *(
-                        f"{sum(self.view.costs[nurse].values()):4}  {costs_text(self.view.costs[nurse])}"
+                        f"{sum(self.view.costs[nurse].values()):4} "
+                        f" {costs_text(self.view.costs[nurse])}"
                         for nurse in self.view.nurses
                     ),
                 ]
@@ -165,7 +175,8 @@ class TextTable:
 
     def lines(self) -> List[str]:
         """The whole table."""
-        view, lines = self.view, list(map(self._harmless, self.head()))
+        view = self.view
+        lines = list(map(self._harmless, self.head()))
         for row, (nurse, name) in enumerate(self.nurses.items(), 1):
             weeks = [
                 _with_weekend_apart([self.shown(week, nurse, day) for day in range(7)], self.gap)
@@ -196,8 +207,10 @@ class TextTable:
 
 
 def spreadsheet(view: RosterView) -> Iterator[List[object]]:
-    """Rows of a spreadsheet: nurses by days, then the cost and the rules that charge it, then the totals."""
-    single, counted = len(view.weeks) == 1, totals(view)
+    """Rows of a spreadsheet: nurses by days, then the cost and the rules that charge it, then the
+    totals."""
+    single = len(view.weeks) == 1
+    counted = totals(view)
     days = [day if single else f"{week.name} {day}" for week in view.weeks for day in DAYS]
     heads = (
         [

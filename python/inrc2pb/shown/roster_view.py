@@ -1,4 +1,5 @@
-"""A roster of one or more weeks, ready to be shown: cells with marks, charges, and lines that go below."""
+"""A roster of one or more weeks, ready to be shown: cells with marks, charges, and lines that go
+below."""
 
 import itertools
 from dataclasses import dataclass, field
@@ -25,7 +26,9 @@ from ..week.records import DAYS, Absence, Cell, Place, Requirement, Week, WeekDa
 from ..week.soft_rules import SOFT_RULES
 from ..week.words import plural
 
-HELD, REFUSED, AWAY = "*", "!", "#"
+HELD = "*"
+REFUSED = "!"
+AWAY = "#"
 MEANINGS = {
     HELD: "held",
     REFUSED: "a request to be off was not granted",
@@ -43,8 +46,9 @@ class ShownCell(NamedTuple):
 
 @dataclass
 class WeekView:
-    """One week of a table: its roster, the requests and held rows if they are known, and all files of the week if they are. Its number is
-    that of the history, and `named` its name if that says more, as its calendar week."""
+    """One week of a table: its roster, the requests and held rows if they are known, and all files
+    of the week if they are. Its number is that of the history, and `named` its name if that says
+    more, as its calendar week."""
 
     number: int
     cells: Sequence[Cell]
@@ -99,7 +103,8 @@ class WeekView:
 
     @cached_property
     def charges(self) -> Optional[List[rules.Charge]]:
-        """What the soft rules charge; None if the week's files are not known, or the roster breaks a hard rule."""
+        """What the soft rules charge; None if the week's files are not known, or the roster breaks
+        a hard rule."""
         return (
             list(rules.charges(self.week, self.cells, self.early))
             if self.week and not self.breaches
@@ -116,7 +121,8 @@ class WeekView:
         )
 
     def for_absence(self, charge: rules.Charge) -> int:
-        """The part of a charge that is for absences: days off above the maximum in a row, while the nurse is away."""
+        """The part of a charge that is for absences: days off above the maximum in a row, while the
+        nurse is away."""
         if (charge.rule, charge.what) != ("S3", "off above") or not charge.days:
             return 0
         first, last = charge.days
@@ -142,12 +148,12 @@ class WeekView:
             lines.append(f"roster breaks {self.breaches[0].rule}: it has no penalty")
         if self.charges is not None:
             places = sum(charge.cost for charge in self.charges if charge.nurse is None)
-            whole, away = sum(charge.cost for charge in self.charges), sum(
-                map(self.for_absence, self.charges)
-            )
+            whole = sum(charge.cost for charge in self.charges)
+            away = sum(map(self.for_absence, self.charges))
             absent = f", {away} of it for absences" if away else ""
             lines.append(
-                f"cost: of the nurses {whole - places}{absent}, of places not filled (S1) {places}; penalty {whole}"
+                f"cost: of the nurses {whole - places}{absent}, of places not filled (S1) {places};"
+                f" penalty {whole}"
             )
         return lines + [
             f"above a limit that holds: {limits_in_words([charge], self.cells)}"
@@ -156,7 +162,8 @@ class WeekView:
 
     @property
     def misfilled(self) -> List[str]:
-        """A line for each day with places that have too few nurses, and then for each with too many."""
+        """A line for each day with places that have too few nurses, and then for each with too
+        many."""
         return (
             [*missing_nurses(self.week, self.cells), *spare_nurses(self.week, self.cells)]
             if self.week
@@ -166,7 +173,8 @@ class WeekView:
 
 @dataclass
 class RosterView:
-    """A table: nurses, shift types and skills in the order in which they are shown, its weeks, and warnings of its files."""
+    """A table: nurses, shift types and skills in the order in which they are shown, its weeks, and
+    warnings of its files."""
 
     name: str
     nurses: Sequence[str]
@@ -190,7 +198,10 @@ class RosterView:
     @property
     def title(self) -> str:
         """The name of the ward, the weeks, and the number of assignments."""
-        return f"{self.name}, {self.weeks_text}: {plural(sum(len(week.cells) for week in self.weeks), 'assignment')}"
+        return (
+            f"{self.name}, {self.weeks_text}:"
+            f" {plural(sum(len(week.cells) for week in self.weeks), 'assignment')}"
+        )
 
     @property
     def weeks_text(self) -> str:
@@ -223,7 +234,10 @@ class RosterView:
         """A line for each week that has no cost, since its roster breaks a hard rule."""
         for week in (week for week in self.weeks if week.breaches):
             others = ": the sums on this page are without it" if len(self.weeks) > 1 else ""
-            yield f"{week.name.capitalize()} has no cost, since it breaks rule {week.breaches[0].rule}{others}."
+            yield (
+                f"{week.name.capitalize()} has no cost, since it breaks rule"
+                f" {week.breaches[0].rule}{others}."
+            )
 
     @cached_property
     def costs(self) -> Dict[str, Dict[str, int]]:
@@ -285,7 +299,8 @@ class Covered(NamedTuple):
 
 def coverage(week: Week, cells: Iterable[Cell]) -> List[Tuple[str, str, List[Covered]]]:
     """The shift types and skills that are needed or filled, each with its seven days."""
-    number, covered = rules.numbers(cells), []
+    number = rules.numbers(cells)
+    covered = []
     for shift, skill in itertools.product(week.scenario.shift_types, week.scenario.skills):
         places = [Place(day, shift, skill) for day in range(7)]
         needs = [week.data.requirements.get(place, Requirement(0, 0)) for place in places]
@@ -314,7 +329,8 @@ def missing_nurses(week: Week, cells: Iterable[Cell]) -> Iterator[str]:
 
 
 def spare_nurses(week: Week, cells: Iterable[Cell]) -> Iterator[str]:
-    """A line for each day on which a place has more nurses than are best, also one that asks for none. They cost nothing."""
+    """A line for each day on which a place has more nurses than are best, also one that asks for
+    none. They cost nothing."""
     number = rules.numbers(cells)
     for day, name in enumerate(DAYS):
         places = []

@@ -1,4 +1,5 @@
-"""What each nurse works in the weeks of a table: shifts and weekends beside her contract, shifts of each type, and wishes."""
+"""What each nurse works in the weeks of a table: shifts and weekends beside her contract, shifts of
+each type, and wishes."""
 
 import collections
 import datetime
@@ -20,8 +21,9 @@ class Wish(NamedTuple):
 
 
 class Totals(NamedTuple):
-    """A nurse's shifts and weekends in the period until now, with the limits of her contract; her shifts of each type and her wishes
-    in the weeks of the table. `away` of the shifts are days away that count as work."""
+    """A nurse's shifts and weekends in the period until now, with the limits of her contract; her
+    shifts of each type and her wishes in the weeks of the table. `away` of the shifts are days away
+    that count as work."""
 
     shifts: int
     contract: Limits
@@ -37,8 +39,10 @@ class Totals(NamedTuple):
         return sum(wish.granted for wish in self.wishes)
 
     def texts(self) -> Tuple[str, str, str]:
-        """The shifts, the weekends and the wishes with their limits, as `5/17-21`, `1/2` and `2/3`."""
-        contract, wishes = f"{self.contract.minimum}-{self.contract.maximum}", len(self.wishes)
+        """The shifts, the weekends and the wishes with their limits, as `5/17-21`, `1/2` and
+        `2/3`."""
+        contract = f"{self.contract.minimum}-{self.contract.maximum}"
+        wishes = len(self.wishes)
         return (
             f"{self.shifts}/{contract}",
             f"{self.weekends}/{self.max_weekends}",
@@ -76,7 +80,8 @@ def totals(view: RosterView) -> Optional[Dict[str, Totals]]:
         days.setdefault(row.nurse, []).append(row.day)
     by_nurse = {}
     for nurse in view.nurses:
-        past, contract = last.week.history.nurses[nurse], last.week.scenario.contract_of(nurse)
+        past = last.week.history.nurses[nurse]
+        contract = last.week.scenario.contract_of(nurse)
         mine = days.get(nurse, [])
         by_nurse[nurse] = Totals(
             past.assignments + len(mine),
@@ -109,8 +114,9 @@ def worked(view: RosterView) -> Dict[str, List[int]]:
 
 
 class Sums(NamedTuple):
-    """What a nurse has in one or more periods: her shifts, their hours, which are none if their times are not known, her nights, her
-    weekends with work, her wishes, and how many of these are granted."""
+    """What a nurse has in one or more periods: her shifts, their hours, which are none if their
+    times are not known, her nights, her weekends with work, her wishes, and how many of these are
+    granted."""
 
     shifts: int = 0
     hours: datetime.timedelta = datetime.timedelta()
@@ -154,7 +160,8 @@ def sums_of(
     nights: Collection[str],
     times: Mapping[str, Times],
 ) -> Dict[str, Sums]:
-    """The sums of nurses with these shifts and wishes of a period, both with its days; `nights` has the shift types of the night."""
+    """The sums of nurses with these shifts and wishes of a period, both with its days; `nights` has
+    the shift types of the night."""
     rows: Dict[str, Dict[int, str]] = {nurse: {} for nurse in nurses}
     for cell in cells:
         rows.setdefault(cell.nurse, {})[cell.day] = cell.shift

@@ -1,4 +1,5 @@
-"""A ward and its history in sentences, to be read by whoever knows the ward. Nurses with the same numbers share a sentence."""
+"""A ward and its history in sentences, to be read by whoever knows the ward. Nurses with the same
+numbers share a sentence."""
 
 from typing import Dict, Iterable, Iterator, List, Optional, Tuple, TypeVar
 
@@ -23,7 +24,10 @@ def together(pairs: Iterable[Tuple[_Key, _Value]]) -> Dict[_Key, List[_Value]]:
 
 def ward_sentence(scenario: Scenario) -> str:
     """The size of a ward."""
-    return f"{scenario.name}: {plural(len(scenario.nurses), 'nurse')}, {plural(scenario.weeks, 'week')} in a period."
+    return (
+        f"{scenario.name}: {plural(len(scenario.nurses), 'nurse')},"
+        f" {plural(scenario.weeks, 'week')} in a period."
+    )
 
 
 def scenario_sentences(scenario: Scenario) -> Iterator[str]:
@@ -54,7 +58,8 @@ def _part(scenario: Scenario, nurse: str) -> Optional[PartContract]:
 
 
 def _owners(scenario: Scenario) -> Dict[str, List[str]]:
-    """The nurses of each contract that is no part of another one, also those for whom a part of it counts."""
+    """The nurses of each contract that is no part of another one, also those for whom a part of it
+    counts."""
     wholes = [name for name in scenario.contracts if not part_contract(name, scenario.contracts)]
     parts = {nurse: _part(scenario, nurse) for nurse in scenario.nurses}
     of_nurse = {
@@ -73,7 +78,10 @@ def _contract_text(contract: Contract, scenario: Scenario) -> str:
     if contract.max_weekends < scenario.weeks:
         weekends = f"at most {plural(contract.max_weekends, 'weekend')} with work"
     both = ", on both days or none" if contract.complete_weekends else ""
-    return f"{_shifts(contract.assignments, scenario)} in {plural(scenario.weeks, 'week')}; {days}; {weekends}{both}"
+    return (
+        f"{_shifts(contract.assignments, scenario)} in {plural(scenario.weeks, 'week')}; {days};"
+        f" {weekends}{both}"
+    )
 
 
 def _shifts(limits: Limits, scenario: Scenario) -> str:
@@ -83,18 +91,26 @@ def _shifts(limits: Limits, scenario: Scenario) -> str:
 def part_sentences(scenario: Scenario, nurses: Iterable[str]) -> Iterator[str]:
     """The nurses for whom their contract does not count as a whole, and what counts instead."""
     for nurse in nurses:
-        part, contract = _part(scenario, nurse), scenario.contract_of(nurse)
+        part = _part(scenario, nurse)
+        contract = scenario.contract_of(nurse)
         if part and part.total:
-            gone, whole = part.total - part.days, scenario.contracts[part.whole].assignments
+            gone = part.total - part.days
+            whole = scenario.contracts[part.whole].assignments
             instead = (
                 f"{_shifts(contract.assignments, scenario)} in place of {_range(whole, part.total)}"
             )
-            yield f"{nurse} is away or unpaid on {gone} of {part.total} days: contract {part.whole} counts in proportion, {instead}."
+            yield (
+                f"{nurse} is away or unpaid on {gone} of {part.total} days: contract"
+                f" {part.whole} counts in proportion, {instead}."
+            )
     long_away = [
         nurse for nurse in nurses for part in [_part(scenario, nurse)] if part and part.any_days_off
     ]
     if long_away:
-        yield f"No maximum of days off in a row, since they are away for longer, or come or leave: {joined(long_away)}."
+        yield (
+            "No maximum of days off in a row, since they are away for longer, or come or leave:"
+            f" {joined(long_away)}."
+        )
 
 
 def _range(limits: Limits, no_limit: int) -> str:
@@ -117,7 +133,8 @@ def _in_a_row(limits: Limits) -> str:
 
 
 def limit_sentences(scenario: Scenario, data: WeekData) -> Iterator[str]:
-    """The maxima that are never exceeded, by contract or, if they are not those of all nurses of a contract, by nurse."""
+    """The maxima that are never exceeded, by contract or, if they are not those of all nurses of a
+    contract, by nurse."""
     for name, owners in _owners(scenario).items():
         said = together((_limits_text(scenario, data, nurse), nurse) for nurse in owners)
         for text, nurses in said.items():
@@ -127,9 +144,8 @@ def limit_sentences(scenario: Scenario, data: WeekData) -> Iterator[str]:
 
 def _limits_text(scenario: Scenario, data: WeekData, nurse: str) -> str:
     """The maxima that a nurse never exceeds; nothing if she has none."""
-    contract, kinds = scenario.contract_of(nurse), {
-        limit.kind for limit in data.limits if limit.nurse == nurse
-    }
+    contract = scenario.contract_of(nurse)
+    kinds = {limit.kind for limit in data.limits if limit.nurse == nurse}
     most = {
         SHIFTS: contract.assignments.maximum,
         WORK_DAYS: contract.working_days.maximum,
@@ -144,16 +160,24 @@ def _limits_text(scenario: Scenario, data: WeekData, nurse: str) -> str:
 
 
 def history_sentences(history: History, counted: Counted = Counted()) -> Iterator[str]:
-    """A history in sentences: the last days, the totals of the period, and apart from them as what days away count in the whole of it."""
+    """A history in sentences: the last days, the totals of the period, and apart from them as what
+    days away count in the whole of it."""
     if history.week:
-        yield f"{plural(history.week, 'week')} of the period {'is' if history.week == 1 else 'are'} over."
+        yield (
+            f"{plural(history.week, 'week')} of the period"
+            f" {'is' if history.week == 1 else 'are'} over."
+        )
     past = list(history.nurses.values())
     lasts = together(
         (row.last_shift, row) for row in sorted(past, key=lambda row: row.last_shift is not None)
     )
     for shift, nurses in lasts.items():
         rows = together((_row_text(row), row.nurse) for row in nurses)
-        yield f"{shift or 'Off'} on Sunday: {'; '.join(f'{joined(names)} {text}' for text, names in rows.items())}."
+        known = [f"{joined(names)} {text}" for text, names in rows.items() if text]
+        if known:
+            yield f"{shift or 'Off'} on Sunday: {'; '.join(known)}."
+        if "" in rows:
+            yield f"Nothing is known of the days before Monday: {joined(rows[''])}."
     days_away = {
         row.nurse: (counted.shifts.get(row.nurse, 0), counted.weekends.get(row.nurse, 0))
         for row in past
@@ -173,14 +197,20 @@ def history_sentences(history: History, counted: Counted = Counted()) -> Iterato
             (_total_text(*both), nurse) for nurse, both in numbers.items() if any(both)
         )
         if totals:
-            yield f"{label}: {'; '.join(f'{joined(names)} {text}' for text, names in totals.items())}."
+            yield (
+                f"{label}:"
+                f" {'; '.join(f'{joined(names)} {text}' for text, names in totals.items())}."
+            )
 
 
 def _row_text(past: NurseHistory) -> str:
-    """How long a nurse was off on Sunday, or on her last shift."""
+    """How long a nurse was off on Sunday, or on her last shift; nothing if that is not known."""
     if past.last_shift is None:
-        return f"for {plural(past.days_off, 'day')} in a row"
-    return f"for {plural(past.consecutive_shifts, 'day')} in a row, with {plural(past.working_days, 'day')} of work"
+        return f"for {plural(past.days_off, 'day')} in a row" if past.days_off else ""
+    return (
+        f"for {plural(past.consecutive_shifts, 'day')} in a row, with"
+        f" {plural(past.working_days, 'day')} of work"
+    )
 
 
 def _total_text(shifts: int, weekends: int) -> str:
@@ -191,6 +221,11 @@ def _total_text(shifts: int, weekends: int) -> str:
 def supply_text(
     scenario: Scenario, history: Optional[History], data: WeekData, paid: Paid = ()
 ) -> str:
-    """The shifts that a week asks for, and those that the contracts supply. `paid` has days away that count as work."""
-    (minimum, best), (low, high) = asked_shifts(data), supplied_shifts(scenario, history, paid)
-    return f"asks for {numbers_text(minimum, best)} shifts; the contracts supply {numbers_text(low, high)} a week"
+    """The shifts that a week asks for, and those that the contracts supply. `paid` has days away
+    that count as work."""
+    (minimum, best) = asked_shifts(data)
+    (low, high) = supplied_shifts(scenario, history, paid)
+    return (
+        f"asks for {numbers_text(minimum, best)} shifts; the contracts supply"
+        f" {numbers_text(low, high)} a week"
+    )

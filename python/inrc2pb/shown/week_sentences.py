@@ -1,4 +1,5 @@
-"""Some weeks in sentences: the numbers of nurses, absences with their reasons, wishes and held shifts. Equal days share a sentence."""
+"""Some weeks in sentences: the numbers of nurses, absences with their reasons, wishes and held
+shifts. Equal days share a sentence."""
 
 from typing import Callable, Collection, Iterable, Iterator, Mapping, NamedTuple, Sequence, Tuple
 
@@ -7,8 +8,10 @@ from ..week.records import DAYS, WEEK_DAYS, Cell, Place, Requirement, Scenario, 
 from ..week.words import joined
 from .ward_sentences import together
 
-# The reason of nurses who are away without one, that of days on which they are always off, and how sentences on the others begin.
-_AWAY, _ALWAYS = "away", "off"
+# The reason of nurses who are away without one, that of days on which they are always off, and how
+# sentences on the others begin.
+_AWAY = "away"
+_ALWAYS = "off"
 _REASONS = {
     "ill": "Ill",
     "leave": "Leave",
@@ -22,8 +25,8 @@ DaysText = Callable[[Collection[int]], str]
 
 
 class DescribedWeek(NamedTuple):
-    """A week to be described: its number, its data, why nurses are away on its days, as far as that is known, its held shifts, and its name
-    if it has one beside its number."""
+    """A week to be described: its number, its data, why nurses are away on its days, as far as that
+    is known, its held shifts, and its name if it has one beside its number."""
 
     number: int
     data: WeekData
@@ -45,7 +48,8 @@ def days_of_week(days: Collection[int]) -> str:
 def weeks_sentences(
     scenario: Scenario, weeks: Sequence[DescribedWeek], days_text: DaysText = days_of_week
 ) -> Iterator[str]:
-    """Weeks in sentences. Their days count from the Monday of the first one, and have these texts."""
+    """Weeks in sentences. Their days count from the Monday of the first one, and have these
+    texts."""
     yield from _needs_sentences(weeks)
     order = {nurse: number for number, nurse in enumerate(scenario.nurses)}
     absences = (
@@ -92,7 +96,8 @@ def held_sentences(held: Iterable[Cell], days_text: DaysText = days_of_week) -> 
 
 
 def _sentence(label: str, pairs: Iterable[Tuple[str, int]], days_text: DaysText) -> Iterator[str]:
-    """A sentence on who has what on which days, if anybody has; those with the same days are joined."""
+    """A sentence on who has what on which days, if anybody has; those with the same days are
+    joined."""
     alike = together((days_text(days), name) for name, days in together(pairs).items())
     words = (f"{joined(names)}{f' on {days}' if days else ''}" for days, names in alike.items())
     if alike:

@@ -1,4 +1,5 @@
-"""Why rosters cost what they cost: each charge and each broken rule in words, and the charges that a change saves or adds."""
+"""Why rosters cost what they cost: each charge and each broken rule in words, and the charges that
+a change saves or adds."""
 
 from typing import Dict, Iterator, List, Sequence, Tuple
 
@@ -37,7 +38,8 @@ def why_lines(view: RosterView) -> Iterator[str]:
     yield from breach_lines(view)
     for above in view.weeks:
         yield from (
-            f"{view.prefix(above)}above a limit that holds: {limits_in_words([charge], above.cells)}"
+            f"{view.prefix(above)}above a limit that holds:"
+            f" {limits_in_words([charge], above.cells)}"
             for charge in above.above
         )
     for shown in view.weeks:
@@ -51,7 +53,8 @@ def why_lines(view: RosterView) -> Iterator[str]:
 
 
 def change_lines(old: RosterView, new: RosterView) -> Iterator[str]:
-    """A line for each change, for each hard rule that is broken, for each charge that is saved or added, and the sum."""
+    """A line for each change, for each hard rule that is broken, for each charge that is saved or
+    added, and the sum."""
     yield from changed_lines(old, new)
     yield from breach_lines(old, "old roster")
     yield from breach_lines(new, "new roster")
@@ -94,7 +97,10 @@ def _in_a_row(charge: Charge, what: str, monday: str) -> str:
 def _in_the_period(charge: Charge, what: str, monday: str) -> str:
     """A total of the period that is too large or too small."""
     side = "at least" if charge.what == "below" else "at most"
-    return f"{plural(charge.number, what)} in the period ({charge.before} before {monday}), {side} {charge.limit}"
+    return (
+        f"{plural(charge.number, what)} in the period ({charge.before} before {monday}),"
+        f" {side} {charge.limit}"
+    )
 
 
 def _not_granted(charge: Charge) -> str:
@@ -121,7 +127,8 @@ def reason(charge: Charge, monday: str) -> str:
 
 
 def in_words(charge: Charge, with_nurse: bool = True, names: Sequence[str] = DAYS) -> str:
-    """A charge in words, as `Chen, Mon to Thu: 4 days off in a row, at most 3`, with these names of days."""
+    """A charge in words, as `Chen, Mon to Thu: 4 days off in a row, at most 3`, with these names of
+    days."""
     monday = "Monday" if names is DAYS else names[0]
     days = (
         days_text(charge.days, names)

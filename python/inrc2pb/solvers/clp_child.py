@@ -1,5 +1,6 @@
-"""A process that keeps linear programs in Clp's library: it gets lists of operations from its standard input, and each `solve` has an
-answer on its standard output, both as a Connection sends them. It imports nothing of the package, and so starts fast.
+"""A process that keeps linear programs in Clp's library: it gets lists of operations from its
+standard input, and each `solve` has an answer on its standard output, both as a Connection sends
+them. It imports nothing of the package, and so starts fast.
 """
 
 import array
@@ -9,62 +10,71 @@ import os
 import sys
 import threading
 import time
+from ctypes import c_double, c_int, c_void_p
 from multiprocessing.connection import Connection
 from typing import Any, Dict, Optional, Tuple
 
-OPTIMAL, INFEASIBLE, STOPPED = 0, 1, 3
+OPTIMAL = 0
+INFEASIBLE = 1
+STOPPED = 3
 LIBRARY = "libClp.so.1"
 # The exit status without the library.
 NO_LIBRARY = 3
-DUAL, PRIMAL = "dual", "primal"
+DUAL = "dual"
+PRIMAL = "primal"
 # Seconds between two looks whether the parent is alive.
 LOOK_SECONDS = 0.5
 _MOST_ITERATIONS = 2**31 - 1
 # Clp's statuses of a basis for a new column and a new row.
-AT_LOWER, _BASIC = b"\3", b"\1"
-_DOUBLE, _INT, _POINTER = ctypes.c_double, ctypes.c_int, ctypes.c_void_p
-# Clp's functions that return an array of a model; others that get nothing but the model; and those that get an array, or a number, too.
-_READING = "getColLower getColUpper getRowLower getRowUpper getObjCoefficients dualRowSolution primalColumnSolution statusArray".split()
+AT_LOWER = b"\3"
+_BASIC = b"\1"
+# Clp's functions that return an array of a model; others that get nothing but the model; and those
+# that get an array, or a number, too.
+_READING = (
+    "getColLower getColUpper getRowLower getRowUpper getObjCoefficients dualRowSolution"
+    " primalColumnSolution statusArray".split()
+)
 _OF_MODEL = "deleteModel status numberIterations objectiveValue".split()
 _WITH_ARRAY = (
     "chgColumnLower chgColumnUpper chgRowLower chgRowUpper chgObjCoefficients copyinStatus".split()
 )
 _WITH_NUMBER = "setLogLevel setMaximumIterations dual primal".split()
-# The status of Clp, the iterations, the value, and, if they are asked for, the rows' prices, the columns' values, and the statuses of the
-# columns and of the rows in the basis.
+# The status of Clp, the iterations, the value, and, if they are asked for, the rows' prices, the
+# columns' values, and the statuses of the columns and of the rows in the basis.
 Answer = Tuple[int, int, float, bytes, bytes, bytes, bytes]
 
 
 def load() -> Any:
     """Clp's library. Without it this is an OSError."""
     clp = ctypes.CDLL(LIBRARY)
-    clp.Clp_newModel.restype = _POINTER
-    clp.Clp_objectiveValue.restype = _DOUBLE
+    clp.Clp_newModel.restype = c_void_p
+    clp.Clp_objectiveValue.restype = c_double
     for name in _READING:
-        getattr(clp, f"Clp_{name}").restype = _POINTER
+        getattr(clp, f"Clp_{name}").restype = c_void_p
     for name in (*_READING, *_OF_MODEL):
-        getattr(clp, f"Clp_{name}").argtypes = [_POINTER]
+        getattr(clp, f"Clp_{name}").argtypes = [c_void_p]
     for name in _WITH_ARRAY:
-        getattr(clp, f"Clp_{name}").argtypes = [_POINTER, _POINTER]
+        getattr(clp, f"Clp_{name}").argtypes = [c_void_p, c_void_p]
     for name in _WITH_NUMBER:
-        getattr(clp, f"Clp_{name}").argtypes = [_POINTER, _INT]
-    clp.Clp_setMaximumSeconds.argtypes = [_POINTER, _DOUBLE]
+        getattr(clp, f"Clp_{name}").argtypes = [c_void_p, c_int]
+    clp.Clp_setMaximumSeconds.argtypes = [c_void_p, c_double]
     return clp
 
 
 def _doubles(data: bytes) -> Any:
-    return (_DOUBLE * (len(data) // 8)).from_buffer_copy(data) if data else (_DOUBLE * 1)()
+    return (c_double * (len(data) // 8)).from_buffer_copy(data) if data else (c_double * 1)()
 
 
 def _ints(data: bytes) -> Any:
-    return (_INT * (len(data) // 4)).from_buffer_copy(data) if data else (_INT * 1)()
+    return (c_int * (len(data) // 4)).from_buffer_copy(data) if data else (c_int * 1)()
 
 
 class Program:
     """A linear program in Clp. Its methods are the operations on it."""
 
     def __init__(self, clp: Any) -> None:
-        self._clp, self._model = clp, _POINTER(clp.Clp_newModel())
+        self._clp = clp
+        self._model = c_void_p(clp.Clp_newModel())
         self._rows = self._columns = 0
         clp.Clp_setLogLevel(self._model, 0)
 
@@ -75,10 +85,10 @@ class Program:
     def add_rows(self, lower: bytes, upper: bytes) -> None:
         """Adds rows without entries."""
         number = len(lower) // 8
-        starts = (_INT * (number + 1))()
+        starts = (c_int * (number + 1))()
         self._clp.Clp_addRows(
             self._model,
-            _INT(number),
+            c_int(number),
             _doubles(lower),
             _doubles(upper),
             starts,
@@ -94,7 +104,7 @@ class Program:
         number = len(costs) // 8
         entries = _ints(starts), _ints(rows), _doubles(values)
         self._clp.Clp_addColumns(
-            self._model, _INT(number), _doubles(lower), _doubles(upper), _doubles(costs), *entries
+            self._model, c_int(number), _doubles(lower), _doubles(upper), _doubles(costs), *entries
         )
         self._columns += number
 
@@ -147,7 +157,8 @@ class Program:
 
     def solve(self, how: str, iterations: int, seconds: float, whole: bool) -> Answer:
         """Solves it, from the basis at which it is."""
-        clp, model = self._clp, self._model
+        clp = self._clp
+        model = self._model
         clp.Clp_setMaximumIterations(model, iterations or _MOST_ITERATIONS)
         # These do not count while it waits for a processor: then the parent ends this process.
         clp.Clp_setMaximumSeconds(model, seconds)
@@ -189,9 +200,11 @@ def exit_without_parent(parent: int) -> None:
 
 
 def main() -> None:
-    """Serves the parent until there are no more requests. What Clp prints goes to standard error."""
+    """Serves the parent until there are no more requests. What Clp prints goes to standard
+    error."""
     threading.Thread(target=exit_without_parent, args=(os.getppid(),), daemon=True).start()
-    requests, answers = Connection(os.dup(0), writable=False), Connection(os.dup(1), readable=False)
+    requests = Connection(os.dup(0), writable=False)
+    answers = Connection(os.dup(1), readable=False)
     os.dup2(2, 1)
     try:
         child = Child(load())

@@ -1,6 +1,7 @@
 """Reads the results of solvers, as answers that `inrc2pb decode` reads.
 
-Known are the files of cbc, glpsol and HiGHS, Gurobi's list of names and values, and what SYMPHONY and toulbar2 print.
+Known are the files of cbc, glpsol and HiGHS, Gurobi's list of names and values, and what SYMPHONY
+and toulbar2 print.
 """
 
 import os
@@ -21,7 +22,8 @@ STATUSES = {
 }
 # A value may be off by a millionth; the factor allows for the rounding of binary numbers.
 TOLERANCE = 1e-6 * (1 + 1e-9)
-# A value that is off by no more is an integer by some solver's tolerance, such as Gurobi's own of 1e-5.
+# A value that is off by no more is an integer by some solver's tolerance, such as Gurobi's own of
+# 1e-5.
 SOLVER_TOLERANCE = 1e-3
 # A larger file is no result of a model: the longest one has some megabytes.
 MAX_BYTES = 1 << 28
@@ -30,6 +32,8 @@ MAX_LINE = 1 << 26
 MAX_OBJECTIVE = 1e17
 LITERALS_PER_LINE = 20
 _VARIABLE = re.compile(r"x([1-9][0-9]{0,8})")
+# How the lines of an answer begin, as pseudo-Boolean solvers print it.
+_OF_ANSWER = re.compile("s [A-Z]|o -?[0-9]|v ")
 _NUMBER = re.compile(r"[+-]?(?:[0-9]+\.?[0-9]*|\.[0-9]+)(?:[eE][+-]?[0-9]+)?")
 
 Line = Tuple[int, str]
@@ -45,7 +49,8 @@ class NotInteger(SolutionFault):
 
 @dataclass
 class Answer:
-    """A solver's answer: its status, its objective if it is known, and the variables that are true."""
+    """A solver's answer: its status, its objective if it is known, and the variables that are
+    true."""
 
     status: str
     objective: Optional[int] = None
@@ -75,7 +80,8 @@ def check_size(path: PathLike) -> None:
 
 
 def read_answer(solution: TextIO, ended: Optional[str] = None) -> Answer:
-    """The answer in a result file. `ended`, a key of STATUSES, counts if the file does not say how the solver ended."""
+    """The answer in a result file. `ended`, a key of STATUSES, counts if the file does not say how
+    the solver ended."""
     lines = (
         (number, line) for number, line in enumerate(map(str.strip, _limited(solution)), 1) if line
     )
@@ -91,6 +97,11 @@ def read_answer(solution: TextIO, ended: Optional[str] = None) -> Answer:
             answer = reader(first, lines, ended or "stopped")
             break
     else:
+        if _OF_ANSWER.match(first[1]):
+            raise SolutionFault(
+                f"line {first[0]} shows that this is an answer already: {first[1][:60]}: give it to"
+                " inrc2pb decode as it is"
+            )
         raise SolutionFault(f"line {first[0]} is of no known result file: {first[1][:60]}")
     if answer.status in ("OPTIMUM FOUND", "SATISFIABLE") and not answer.variables:
         _no_values()
@@ -98,20 +109,23 @@ def read_answer(solution: TextIO, ended: Optional[str] = None) -> Answer:
 
 
 def _limited(solution: TextIO) -> Iterator[str]:
-    """The lines of a file. Raises SolutionFault if a line or the file is too long for an answer: a pipe or a device may be endless."""
+    """The lines of a file. Raises SolutionFault if a line or the file is too long for an answer: a
+    pipe or a device may be endless."""
     left = MAX_BYTES
     while line := solution.readline(MAX_LINE + 1):
         left -= len(line)
         if left < 0 or len(line) > MAX_LINE:
             raise SolutionFault(
-                f"a line or the file is longer than {MAX_LINE >> 20} or {MAX_BYTES >> 20} MiB: this is no answer"
+                f"a line or the file is longer than {MAX_LINE >> 20} or {MAX_BYTES >> 20} MiB: this"
+                " is no answer"
             )
         yield line
 
 
 def _no_values() -> Answer:
     raise SolutionFault(
-        "the solution has no variable that is 1, not even the unit variable: the file is cut, or of another model"
+        "the solution has no variable that is 1, not even the unit variable: the file is cut, or of"
+        " another model"
     )
 
 
@@ -130,7 +144,8 @@ def _put_value(line: int, name: str, text: str, variables: "array[int]") -> None
     match = _VARIABLE.fullmatch(name)
     if not match:
         raise SolutionFault(
-            f"line {line}: '{name[:40]}' is no variable of the model: is this a solution of another model?"
+            f"line {line}: '{name[:40]}' is no variable of the model: is this a solution of another"
+            " model?"
         )
     if not _NUMBER.fullmatch(text):
         raise SolutionFault(f"line {line}: '{text[:40]}' is no value for {name}")
@@ -138,10 +153,14 @@ def _put_value(line: int, name: str, text: str, variables: "array[int]") -> None
     off = min(abs(value), abs(value - 1))
     if off > SOLVER_TOLERANCE:
         raise NotInteger(
-            f"line {line}: {name} is {text}, neither 0 nor 1: let the solver solve the model with integers"
+            f"line {line}: {name} is {text}, neither 0 nor 1: let the solver solve the model with"
+            " integers"
         )
     if off > TOLERANCE:
-        advice = "give the solver a smaller integrality tolerance (Gurobi: IntFeasTol=1e-9; HiGHS: mip_feasibility_tolerance = 1e-9)"
+        advice = (
+            "give the solver a smaller integrality tolerance (Gurobi: IntFeasTol=1e-9; HiGHS:"
+            " mip_feasibility_tolerance = 1e-9)"
+        )
         raise SolutionFault(
             f"line {line}: {name} is {text}, off by more than a millionth: {advice}"
         )
@@ -164,7 +183,8 @@ def _words(lines: Iterable[Line]) -> Iterator[Tuple[int, List[str]]]:
 
 
 def _of_cbc(first: Line, lines: Iterator[Line], _ended: str) -> Answer:
-    """`Optimal - objective value 320.0`, then index, name, value and reduced cost; `**` marks an infeasible row."""
+    """`Optimal - objective value 320.0`, then index, name, value and reduced cost; `**` marks an
+    infeasible row."""
     says, _, objective = first[1].partition(" - objective value")
     if "nfeasible" in says:
         return Answer("UNSATISFIABLE")
@@ -195,8 +215,10 @@ _GLPSOL = {
 
 
 def _of_glpsol(_first: Line, lines: Iterator[Line], _ended: str) -> Answer:
-    """The printed form, `glpsol -o`: a table of rows, then one of columns: number, name, `*`, value and bounds."""
-    status, objective = "", None
+    """The printed form, `glpsol -o`: a table of rows, then one of columns: number, name, `*`, value
+    and bounds."""
+    status = ""
+    objective = None
     for _number, line in lines:
         key, _, value = line.partition(":")
         if key == "Status":
@@ -228,7 +250,8 @@ def _of_highs(_first: Line, lines: Iterator[Line], _ended: str) -> Answer:
     says = next(lines, (0, ""))[1]
     if says in ("Infeasible", "Primal infeasible or unbounded", "Unbounded or infeasible"):
         return Answer("UNSATISFIABLE" if says == "Infeasible" else "UNKNOWN")
-    objective, feasible = None, False
+    objective = None
+    feasible = False
     for _number, line in lines:
         words = line.split()
         if line == "Feasible":
@@ -256,7 +279,8 @@ def _until_comment(lines: Iterator[Line]) -> Iterator[Tuple[int, List[str]]]:
 
 
 def _of_list(first: Line, lines: Iterator[Line], ended: str) -> Answer:
-    """Names and values, as Gurobi and others write them; `# Objective value = ..` in front, if at all."""
+    """Names and values, as Gurobi and others write them; `# Objective value = ..` in front, if at
+    all."""
     objective = None
     while first[1].startswith("#"):
         key, _, value = first[1].lstrip("# ").partition("=")
@@ -269,8 +293,11 @@ def _of_list(first: Line, lines: Iterator[Line], ended: str) -> Answer:
 
 
 def _of_symphony(_first: Line, lines: Iterator[Line], _ended: str) -> Answer:
-    """What `symphony -L week.lp` prints: how it ended, between lines of stars, and the values that are not 0."""
-    says, objective, rows = "", None, []
+    """What `symphony -L week.lp` prints: how it ended, between lines of stars, and the values that
+    are not 0."""
+    says = ""
+    objective = None
+    rows = []
     for number, line in lines:
         words = line.split()
         if line.startswith("* ") and not line.startswith("* Now "):
@@ -286,8 +313,11 @@ def _of_symphony(_first: Line, lines: Iterator[Line], _ended: str) -> Answer:
 
 
 def _of_toulbar2(_first: Line, lines: Iterator[Line], _ended: str) -> Answer:
-    """What `toulbar2 week.opb -s=3` prints: after each `New solution: 320 (..)` a line `x1=v0 x2=v1 ..`, of which the last one counts."""
-    says, objective, last = "stopped", None, (0, "")
+    """What `toulbar2 week.opb -s=3` prints: after each `New solution: 320 (..)` a line
+    `x1=v0 x2=v1 ..`, of which the last one counts."""
+    says = "stopped"
+    objective = None
+    last = (0, "")
     for number, line in lines:
         if line.startswith("New solution: "):
             objective = _objective(line.split()[2])

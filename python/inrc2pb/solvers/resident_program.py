@@ -1,4 +1,5 @@
-"""Linear programs that stay in a solver: columns are added to a warm basis, and bounds and costs change.
+"""Linear programs that stay in a solver: columns are added to a warm basis, and bounds and costs
+change.
 
 A child process keeps them in Clp's library. Nothing depends on a right answer.
 """
@@ -26,8 +27,6 @@ GRACE = 1.0
 END_SECONDS = 1.0
 # What Clp takes for infinity.
 _INFINITE = 1e30
-# The line before and after columns that are integers.
-_MARK = "    MARKER                 'MARKER'                 'INT{}'\n"
 # An operation on a program: a name and words.
 _Operation = Tuple[object, ...]
 NAME = "Clp's library"
@@ -55,8 +54,9 @@ class Column(NamedTuple):
 
 
 class Solution(NamedTuple):
-    """The answer of a linear program: whether it is OPTIMAL, INFEASIBLE or STOPPED at the limit of its iterations, its value, the prices of
-    its rows, the values of its columns, the number of iterations, and the statuses of columns and rows in its basis, if they are known.
+    """The answer of a linear program: whether it is OPTIMAL, INFEASIBLE or STOPPED at the limit of
+    its iterations, its value, the prices of its rows, the values of its columns, the number of
+    iterations, and the statuses of columns and rows in its basis, if they are known.
     """
 
     status: int
@@ -68,10 +68,12 @@ class Solution(NamedTuple):
 
 
 class Child:
-    """The process that keeps programs. It starts with the first request, and again after a fault; `starts` counts that."""
+    """The process that keeps programs. It starts with the first request, and again after a fault;
+    `starts` counts that."""
 
     def __init__(self, processes: Processes, folder: Path) -> None:
-        self._processes, self._folder = processes, folder
+        self._processes = processes
+        self._folder = folder
         self._process: "Optional[subprocess.Popen[bytes]]" = None
         self._pipes: Optional[Tuple[Connection, Connection]] = None
         self._faults = self._programs = self.starts = 0
@@ -100,7 +102,8 @@ class Child:
             [sys.executable, "-I", "-S", clp_child.__file__], self._folder
         )
         assert process.stdin and process.stdout
-        requests, answers = os.dup(process.stdin.fileno()), os.dup(process.stdout.fileno())
+        requests = os.dup(process.stdin.fileno())
+        answers = os.dup(process.stdout.fileno())
         self._pipes = Connection(requests, readable=False), Connection(answers, writable=False)
         self.starts += 1
         self._forgotten.clear()
@@ -129,7 +132,8 @@ class Child:
     def ask(
         self, operations: Sequence[_Operation], clock: Clock, rows: int, columns: int
     ) -> Solution:
-        """Does the operations, of which the last one solves; so many numbers belong to the answer."""
+        """Does the operations, of which the last one solves; so many numbers belong to the
+        answer."""
         if self._processes.stopped:
             raise TimeIsOver
         assert self._pipes
@@ -174,7 +178,8 @@ def _finite(value: float) -> float:
 
 
 class LinearProgram:
-    """A linear program. It is a copy of what a child keeps: a new child gets it from here. Without a child it is not solved.
+    """A linear program. It is a copy of what a child keeps: a new child gets it from here. Without
+    a child it is not solved.
 
     A row is Σ entries between its bounds. All changes count from the next `solve` on.
     """
@@ -182,9 +187,11 @@ class LinearProgram:
     def __init__(self, child: Optional[Child]) -> None:
         self._child = child
         self._number = child.number() if child else 0
-        self._lower, self._upper = array("d"), array("d")
+        self._lower = array("d")
+        self._upper = array("d")
         self._columns: List[Column] = []
-        # The changes that the child has not done yet, the rows and columns that it has, and its start.
+        # The changes that the child has not done yet, the rows and columns that it has, and its
+        # start.
         self._pending: List[_Operation] = []
         self._sent = (0, 0)
         self._start = 0
@@ -196,7 +203,8 @@ class LinearProgram:
         return {**self.__dict__, "_child": None, "_pending": []}
 
     def part(self, columns: Sequence[int], target: "LinearProgram") -> "LinearProgram":
-        """Makes an empty program one with all rows and these columns, which begins at the basis of the last whole solution."""
+        """Makes an empty program one with all rows and these columns, which begins at the basis of
+        the last whole solution."""
         of_columns, of_rows = self.basis
         target.add_rows(zip(self._lower, self._upper))
         target.add_columns([self._columns[number] for number in columns])
@@ -237,7 +245,8 @@ class LinearProgram:
     def bound_rows(self, bounds: Dict[int, Tuple[float, float]]) -> None:
         """Changes the bounds of rows."""
         for number, (lower, upper) in bounds.items():
-            self._lower[number], self._upper[number] = _finite(lower), _finite(upper)
+            self._lower[number] = _finite(lower)
+            self._upper[number] = _finite(upper)
         self._change("bound_rows", bounds)
 
     def set_costs(self, costs: Dict[int, float]) -> None:
@@ -271,8 +280,9 @@ class LinearProgram:
     def solve(
         self, clock: Clock, how: str = PRIMAL, iterations: int = 0, whole: bool = True
     ) -> Solution:
-        """Solves it by the dual or the primal simplex method, in at most these iterations (0: any number). Only a whole solution has
-        prices, values and rises. The end of the clock's time is a TimeIsOver; if the child does not work, this is a SolverFault.
+        """Solves it by the dual or the primal simplex method, in at most these iterations (0: any
+        number). Only a whole solution has prices, values and rises. The end of the clock's time is
+        a TimeIsOver; if the child does not work, this is a SolverFault.
         """
         clock.check()
         while self._child and not self._child.broken:
@@ -290,12 +300,11 @@ class LinearProgram:
         if not child.is_alive:
             child.start()
         if self._start != child.starts:
-            self._start, self._sent, self._pending = (
-                child.starts,
-                (0, 0),
-                [("begin_at", *self.basis)],
-            )
-        operations, self._pending = [*self._new(), *self._pending, ("solve", *words)], []
+            self._start = child.starts
+            self._sent = (0, 0)
+            self._pending = [("begin_at", *self.basis)]
+        operations = [*self._new(), *self._pending, ("solve", *words)]
+        self._pending = []
         sizes = (self.rows, self.columns) if words[-1] else (0, 0)
         found = child.ask([(self._number, *operation) for operation in operations], clock, *sizes)
         self.basis = found.basis if words[-1] else self.basis
@@ -303,57 +312,12 @@ class LinearProgram:
 
     def _new(self) -> Iterable[_Operation]:
         """Gives the child the rows and columns that it does not have yet."""
-        (rows, columns), self._sent = self._sent, (self.rows, self.columns)
+        (rows, columns) = self._sent
+        self._sent = (self.rows, self.columns)
         if rows < self.rows:
             yield "add_rows", self._lower[rows:].tobytes(), self._upper[rows:].tobytes()
         if columns < self.columns:
             yield "add_columns", *_as_arrays(self._columns[columns:])
-
-    def text(self, names: Sequence[str], whole: str) -> str:
-        """The program in the MPS format: row N is cN. Each column has its name; an empty one leaves it out, and names with the letter of
-        `whole` are those of columns that are 0 or 1."""
-        kinds, right, ranges = [], [], []
-        for number, (lower, upper) in enumerate(zip(self._lower, self._upper)):
-            kind = (
-                "E"
-                if lower == upper
-                else "N"
-                if upper - lower >= 2 * _INFINITE
-                else "G"
-                if upper >= _INFINITE
-                else "L"
-            )
-            kinds.append(f" {kind}  c{number}\n")
-            if kind != "N":
-                right.append(_entry("RHS", f"c{number}", upper if kind == "L" else lower))
-            if kind == "L" and lower > -_INFINITE:
-                ranges.append(_entry("RNG", f"c{number}", upper - lower))
-        lines = ["NAME          ROWS\nROWS\n N  obj\n", *kinds, "COLUMNS\n"]
-        limits, marks = [], 0
-        for name, (cost, lower, upper, entries) in zip(names, self._columns):
-            if not name or lower == upper == 0:
-                continue
-            is_whole = name[0] == whole
-            if is_whole == (marks % 2 == 0):
-                lines.append(_MARK.format("END" if marks % 2 else "ORG"))
-                marks += 1
-            if cost:
-                lines.append(_entry(name, "obj", cost))
-            lines += [_entry(name, f"c{row}", value) for row, value in entries]
-            if is_whole:
-                limits.append(f" BV BND       {name}\n")
-            else:
-                if lower:
-                    limits.append(
-                        _bound("LO" if lower > -_INFINITE else "MI", name, _finite(lower))
-                    )
-                limits.append(
-                    _bound("UP", name, upper) if upper < _INFINITE else f" PL BND       {name}\n"
-                )
-        if marks % 2:
-            lines.append(_MARK.format("END"))
-        ranges[:0] = ["RANGES\n"] if ranges else []
-        return "".join([*lines, "RHS\n", *right, *ranges, "BOUNDS\n", *limits, "ENDATA\n"])
 
 
 def _as_arrays(columns: Sequence[Column]) -> Tuple[bytes, ...]:
@@ -362,18 +326,12 @@ def _as_arrays(columns: Sequence[Column]) -> Tuple[bytes, ...]:
         array("d", map(_finite, part)).tobytes()
         for part in zip(*(column[:3] for column in columns))
     ]
-    starts, rows, values = array("i", [0]), array("i"), array("d")
+    starts = array("i", [0])
+    rows = array("i")
+    values = array("d")
     for column in columns:
         for row, value in column.entries:
             rows.append(row)
             values.append(value)
         starts.append(len(rows))
     return (*bounds, starts.tobytes(), rows.tobytes(), values.tobytes())
-
-
-def _entry(column: str, row: str, value: float) -> str:
-    return f"    {column:<8}  {row:<8}  {value:>12.12g}\n"
-
-
-def _bound(kind: str, name: str, value: float) -> str:
-    return f" {kind} BND       {name:<8}  {value:>12.12g}\n"

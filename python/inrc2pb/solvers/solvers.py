@@ -1,4 +1,5 @@
-"""A user's own solver: a command that reads the model of a whole week, and has an answer that `inrc2pb decode` reads."""
+"""A user's own solver: a command that reads the model of a whole week, and has an answer that
+`inrc2pb decode` reads."""
 
 import io
 import os
@@ -31,7 +32,8 @@ _COMMANDS = {
     "cbc": "cbc {lp} sec {seconds} timem elapsed solve solution {sol}",
 }
 # A status at the beginning of the output, or of a later line.
-_STATUS, _LATER_STATUS = re.compile(rb"s(?:[ \t\r\n]|$)"), re.compile(rb"\ns(?:[ \t\r\n]|$)")
+_STATUS = re.compile(rb"s(?:[ \t\r\n]|$)")
+_LATER_STATUS = re.compile(rb"\ns(?:[ \t\r\n]|$)")
 
 
 @dataclass(frozen=True)
@@ -46,9 +48,11 @@ NONE_IN_TIME = Outcome("s UNKNOWN\n")
 
 
 class Solver:
-    """A command with places for the model `{opb}` (or `{}`) or `{lp}`, for the result file `{sol}` and for the `{seconds}`.
+    """A command with places for the model `{opb}` (or `{}`) or `{lp}`, for the result file `{sol}`
+    and for the `{seconds}`.
 
-    Without a place for a model its path is the last word. It runs in the user's folder, so that its words may name files there.
+    Without a place for a model its path is the last word. It runs in the user's folder, so that its
+    words may name files there.
     """
 
     def __init__(self, name: str, words: Sequence[str]) -> None:
@@ -112,12 +116,16 @@ class Solver:
             return NONE_IN_TIME
         return Outcome(
             "",
-            f"it {'printed no answer' if result is None else 'wrote no result file'} and {_ending(ended)}",
+            (
+                f"it {'printed no answer' if result is None else 'wrote no result file'} and"
+                f" {_ending(ended)}"
+            ),
         )
 
 
 def _has_status(printed: bytes) -> bool:
-    """Whether one of the lines is a status. Nothing else is done with output that has none: it may be hundreds of megabytes."""
+    """Whether one of the lines is a status. Nothing else is done with output that has none: it may
+    be hundreds of megabytes."""
     return bool(_STATUS.match(printed[:2]) or _LATER_STATUS.search(printed))
 
 
@@ -145,7 +153,8 @@ def _ending(ended: Ended) -> str:
 
 
 def find_solver(text: str) -> Solver:
-    """The solver of this command, or of the name clasp or cbc. Raises Misuse if it cannot be run."""
+    """The solver of this command, or of the name clasp or cbc. Raises Misuse if it cannot be
+    run."""
     try:
         words: List[str] = shlex.split(text)
     except ValueError as fault:

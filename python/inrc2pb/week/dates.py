@@ -1,4 +1,5 @@
-"""The days of a plan and their dates, with the one grammar in which users write them, and the times of shift types."""
+"""The days of a plan and their dates, with the one grammar in which users write them, and the times
+of shift types."""
 
 import datetime
 import itertools
@@ -54,12 +55,14 @@ class WrittenDate(NamedTuple):
     day: int
 
     def date(self, year: int = 0) -> datetime.date:
-        """The date, of this year if the text has none. Raises ValueError if there is no such day."""
+        """The date, of this year if the text has none. Raises ValueError if there is no such
+        day."""
         return datetime.date(year if self.year is None else self.year, self.month, self.day)
 
 
 def written_dates(text: str) -> Iterator[WrittenDate]:
-    """The dates in a text, each written as `2026-11-30`, `30.11.2026`, or `30.11.` without its year."""
+    """The dates in a text, each written as `2026-11-30`, `30.11.2026`, or `30.11.` without its
+    year."""
     for match in _DATE.finditer(text):
         year, month, day = match.groups()[:3] if match[1] else (match[6], match[5], match[4])
         yield WrittenDate(match[0], int(year) if year else None, int(month), int(day))
@@ -71,7 +74,8 @@ def written_date(text: str) -> Optional[WrittenDate]:
 
 
 def read_monday(text: str, weeks: int) -> datetime.date:
-    """The Monday with which so many weeks begin. Raises Misuse if the text is no Monday, written as `2026-11-30`."""
+    """The Monday with which so many weeks begin. Raises Misuse if the text is no Monday, written as
+    `2026-11-30`."""
     try:
         date = datetime.date.fromisoformat(text)
         if str(date) != text:
@@ -100,14 +104,16 @@ def day_names(monday: Optional[datetime.date], week: int) -> Sequence[str]:
 
 
 def read_times(texts: Sequence[str], shifts: Collection[str]) -> Dict[str, Times]:
-    """The times of all shift types or of none, each given as `Early=06:00-14:15`. A shift that ends before it begins ends a day later.
-    Raises Misuse if a text has no times, or only some shift types have them."""
+    """The times of all shift types or of none, each given as `Early=06:00-14:15`. A shift that ends
+    before it begins ends a day later. Raises Misuse if a text has no times, or only some shift
+    types have them."""
     by_shift: Dict[str, Times] = {}
     for text in texts:
         shift, is_given, times = text.rpartition("=")
         if not is_given or not _TIMES.fullmatch(times):
             raise Misuse(
-                f"--times {text}: give a shift type, its start and its end, such as Early=06:00-14:15"
+                f"--times {text}: give a shift type, its start and its end, such as"
+                " Early=06:00-14:15"
             )
         if shift not in shifts:
             advice = did_you_mean(shift, shifts, f"give one of {quoted(shifts)}")
@@ -118,17 +124,20 @@ def read_times(texts: Sequence[str], shifts: Collection[str]) -> Dict[str, Times
     missing = [shift for shift in shifts if shift not in by_shift]
     if by_shift and missing:
         raise Misuse(
-            f"--times has no times of {quoted(missing)}: give them too, such as --times {missing[0]}=06:00-14:15"
+            f"--times has no times of {quoted(missing)}: give them too, such as --times"
+            f" {missing[0]}=06:00-14:15"
         )
     return by_shift
 
 
 def times_of(text: str, where: str) -> Times:
-    """The times of a shift, given as `06:00-14:15`. Raises Misuse, which names `where`, if the text is otherwise."""
+    """The times of a shift, given as `06:00-14:15`. Raises Misuse, which names `where`, if the text
+    is otherwise."""
     match = _TIMES.fullmatch(text)
     if not match:
         raise Misuse(
-            f"{where}: '{text}' has no times: write when the shift begins and ends, such as 06:00-14:15"
+            f"{where}: '{text}' has no times: write when the shift begins and ends, such as"
+            " 06:00-14:15"
         )
     start, end = (_minutes(where, time) for time in match.groups())
     length = (end - start) % (24 * 60) or 24 * 60
@@ -140,7 +149,8 @@ def _minutes(where: str, time: str) -> int:
     hours, minutes = map(int, time.split(":"))
     if minutes > 59 or hours * 60 + minutes > 24 * 60:
         raise Misuse(
-            f"{where}: {time} is no time of a day: give hours from 0 to 24 and minutes from 00 to 59"
+            f"{where}: {time} is no time of a day: give hours from 0 to 24 and minutes from 00"
+            " to 59"
         )
     return hours * 60 + minutes
 
@@ -157,9 +167,25 @@ def is_day(word: str) -> bool:
     return bool(_WEEKDAY.fullmatch(word) or written_date(word))
 
 
+def is_date(text: str) -> bool:
+    """Whether the text is a date, such as `2026-12-04`, `4.12.` or `4 Dec`."""
+    return bool(written_date(text) or _IN_WORDS.fullmatch(text))
+
+
+def first_date(words: Sequence[str]) -> str:
+    """The first day among words, if it is a date. The first word may be a name such as Mona."""
+    pairs = map(" ".join, zip(words, words[1:]))
+    for number, (word, pair) in enumerate(itertools.zip_longest(words, pairs, fillvalue="")):
+        if is_date(pair) or is_date(word):
+            return pair if is_date(pair) else word
+        if number and is_day(word):
+            return ""
+    return ""
+
+
 class PlanDays(NamedTuple):
-    """The days of some weeks, counted from 0; in words weeks count from 1, with the calendar week beside it. The date of the first Monday
-    is None if the sheet has no dates."""
+    """The days of some weeks, counted from 0; in words weeks count from 1, with the calendar week
+    beside it. The date of the first Monday is None if the sheet has no dates."""
 
     monday: Optional[datetime.date]
     weeks: int
@@ -168,6 +194,13 @@ class PlanDays(NamedTuple):
     def total(self) -> int:
         """The number of days."""
         return WEEK_DAYS * self.weeks
+
+    def first_of(self, period: "PlanDays") -> Optional[int]:
+        """The first day of a period whose days are all among these."""
+        if self.monday is None or period.monday is None:
+            return None
+        first = (period.monday - self.monday).days
+        return first if 0 <= first <= self.total - period.total else None
 
     def next(self) -> "PlanDays":
         """Those of the period after this one, whose number of weeks is not known."""
@@ -188,23 +221,25 @@ class PlanDays(NamedTuple):
         return name if self.monday is None else f"{name} (calendar week {self.calendar_week(week)})"
 
     def weeks_text(self, weeks: Sequence[int]) -> str:
-        """Weeks in a sentence, as `weeks 1 and 3 (calendar weeks 49 and 51)`, or `weeks 1 and 3`."""
+        """Weeks in a sentence, as `weeks 1 and 3 (calendar weeks 49 and 51)`, or
+        `weeks 1 and 3`."""
         if len(weeks) == 1:
             return self.week_text(weeks[0])
         numbers = f"weeks {joined(str(week + 1) for week in weeks)}"
         return (
             numbers
             if self.monday is None
-            else f"{numbers} (calendar weeks {joined(str(self.calendar_week(week)) for week in weeks)})"
+            else (
+                f"{numbers} (calendar weeks"
+                f" {joined(str(self.calendar_week(week)) for week in weeks)})"
+            )
         )
 
     def week_number(self, text: str) -> Optional[int]:
-        """The week that a text names: `2` is the second one of the plan, and `CW 49`, or `49` in a plan of fewer weeks, a calendar week.
-        None if the plan does not have it, or it is none."""
-        calendar, number = (
-            _CALENDAR_WEEK.fullmatch(text),
-            int(text) if re.fullmatch("[0-9]{1,2}", text) else 0,
-        )
+        """The week that a text names: `2` is the second one of the plan, and `CW 49`, or `49` in a
+        plan of fewer weeks, a calendar week. None if the plan does not have it, or it is none."""
+        calendar = _CALENDAR_WEEK.fullmatch(text)
+        number = int(text) if re.fullmatch("[0-9]{1,2}", text) else 0
         if not calendar and 1 <= number <= self.weeks:
             return number - 1
         wanted = int(calendar[1]) if calendar else number
@@ -242,24 +277,21 @@ class PlanDays(NamedTuple):
         )
 
     def number(self, text: str, near: int) -> int:
-        """The day that a text names. A day of the week is the first one from the day `near` on. Raises OtherPlan if the plan does not have
-        the day, and Misuse if the text is none."""
-        weekday, date, in_words = (
-            _WEEKDAY.fullmatch(text),
-            written_date(text),
-            _IN_WORDS.fullmatch(text),
-        )
+        """The day that a text names. A day of the week is the first one from the day `near` on.
+        Raises OtherPlan if the plan does not have the day, and Misuse if the text is none."""
+        weekday = _WEEKDAY.fullmatch(text)
+        date = written_date(text)
+        in_words = _IN_WORDS.fullmatch(text)
         if in_words:
             day = self.number(f"{in_words[2]}.{MONTHS.index(in_words[3].title()) + 1}.", near)
             if in_words[1] and in_words[1].title() != DAYS[day % WEEK_DAYS]:
                 raise Misuse(
-                    f"'{text}' is a {DAYS[day % WEEK_DAYS]}: write {self.head(day)}, if you mean this day"
+                    f"'{text}' is a {DAYS[day % WEEK_DAYS]}: write {self.head(day)}, if you mean"
+                    " this day"
                 )
         elif weekday:
-            of_week, week = (
-                DAYS.index(weekday[1].title()),
-                self.week_number(weekday[2]) if weekday[2] else None,
-            )
+            of_week = DAYS.index(weekday[1].title())
+            week = self.week_number(weekday[2]) if weekday[2] else None
             # A week that the plan does not have is said below.
             beyond = WEEK_DAYS * (self.weeks if week is None else week)
             day = beyond + of_week if weekday[2] else near + (of_week - near) % WEEK_DAYS
@@ -267,18 +299,28 @@ class PlanDays(NamedTuple):
             day = self._of_date(text, date)
         else:
             raise Misuse(
-                f"'{text}' is no day: write a day such as {self.head(near)}, or Fri for the next Friday of the plan"
+                f"'{text}' is no day: write a day such as {self.head(near)}, or Fri for the next"
+                " Friday of the plan"
             )
         if not 0 <= day < self.total:
             raise OtherPlan(
-                f"'{text}' is not in this plan: it has the days {self.head(0)} to {self.head(self.total - 1)}"
+                f"'{text}' is not in this plan: it has the days {self.head(0)} to"
+                f" {self.head(self.total - 1)}"
             )
         return day
+
+    def has(self, text: str) -> bool:
+        """Whether the text is a date of these days."""
+        try:
+            return is_date(text) and self.number(text, 0) >= 0
+        except Misuse:
+            return False
 
     def _of_date(self, text: str, written: WrittenDate) -> int:
         if self.monday is None:
             raise Misuse(
-                f"'{text}': the sheet plan has no dates: write a day such as {self.head(0)}, or dates into its heads"
+                f"'{text}': the sheet plan has no dates: write a day such as {self.head(0)}, or"
+                " dates into its heads"
             )
         try:
             date = written.date(self.monday.year)

@@ -1,6 +1,8 @@
-"""Facts about a plan of several weeks, the file of those that plans are asked to keep, and the file of reasons of days away beside it.
+"""Facts about a plan of several weeks, the file of those that plans are asked to keep, and the file
+of reasons of days away beside it.
 
-The layout of docs/formats.md has them as `HOLDS fact` or `NOT fact`. A week's number is counted from 1.
+The layout of docs/formats.md has them as `HOLDS fact` or `NOT fact`. A week's number is counted
+from 1.
 """
 
 from typing import Callable, Dict, Iterable, List, NamedTuple, Optional, Sequence, Tuple, Union
@@ -8,10 +10,15 @@ from typing import Callable, Dict, Iterable, List, NamedTuple, Optional, Sequenc
 from .records import DAYS, NONE, Place, Scenario
 from .slots import PathLike, Slots
 
-# The kinds of charges: days in runs of a shift type, working days in a row, and totals of assignments and of weekends.
-SHIFT_RUNS, WORK_DAYS, SHIFTS, WEEKENDS = "SHIFT_RUNS", "WORK_DAYS", "SHIFTS", "WEEKENDS"
+# The kinds of charges: days in runs of a shift type, working days in a row, and totals of
+# assignments and of weekends.
+SHIFT_RUNS = "SHIFT_RUNS"
+WORK_DAYS = "WORK_DAYS"
+SHIFTS = "SHIFTS"
+WEEKENDS = "WEEKENDS"
 KINDS = (SHIFT_RUNS, WORK_DAYS, SHIFTS, WEEKENDS)
-HOLDS, NOT = "HOLDS", "NOT"
+HOLDS = "HOLDS"
+NOT = "NOT"
 MAX_WEEKS = 52
 
 
@@ -59,9 +66,15 @@ def fact_text(fact: Fact) -> str:
     if isinstance(fact, Choice):
         return f"CHOICE {fact.week} {fact.nurse} {DAYS[fact.day]} {fact.shift or NONE}"
     if isinstance(fact, AtPlace):
-        return f"PLACE {fact.week} {DAYS[fact.place.day]} {fact.place.shift} {fact.place.skill} {fact.most}"
+        return (
+            "PLACE"
+            f" {fact.week} {DAYS[fact.place.day]} {fact.place.shift} {fact.place.skill} {fact.most}"
+        )
     if isinstance(fact, Charged):
-        return f"CHARGES {fact.kind} {'ALL' if fact.nurse is None else f'NURSE {fact.nurse}'} {fact.most}"
+        return (
+            "CHARGES"
+            f" {fact.kind} {'ALL' if fact.nurse is None else f'NURSE {fact.nurse}'} {fact.most}"
+        )
     return "EVEN"
 
 
@@ -95,16 +108,16 @@ def read_fact(slots: Slots, scenario: Scenario, weeks: int) -> Fact:
 
 
 def _choice(slots: Slots, scenario: Scenario, weeks: int) -> Choice:
-    week, nurse = _week(slots, weeks), _nurse(slots, scenario)
-    day, shift = (
-        _day(slots),
-        slots.known_name("shift type", scenario.shift_types, "SHIFT_TYPES", (NONE,)).text,
-    )
+    week = _week(slots, weeks)
+    nurse = _nurse(slots, scenario)
+    day = _day(slots)
+    shift = slots.known_name("shift type", scenario.shift_types, "SHIFT_TYPES", (NONE,)).text
     return Choice(week, nurse, day, None if shift == NONE else shift)
 
 
 def _place(slots: Slots, scenario: Scenario, weeks: int) -> AtPlace:
-    week, day = _week(slots, weeks), _day(slots)
+    week = _week(slots, weeks)
+    day = _day(slots)
     shift = slots.known_name("shift type", scenario.shift_types, "SHIFT_TYPES").text
     skill = slots.known_name("skill", scenario.skills, "SKILLS").text
     return AtPlace(week, Place(day, shift, skill), slots.number("the most nurses of the place"))
@@ -138,7 +151,8 @@ def _day(slots: Slots) -> int:
 
 
 def of_weeks(claims: Iterable[Claim], first: int, count: int) -> Tuple[Claim, ...]:
-    """The claims about `count` weeks of a period, the first of which has this number from 0, with weeks counted from 1 in them."""
+    """The claims about `count` weeks of a period, the first of which has this number from 0, with
+    weeks counted from 1 in them."""
     claims_of_weeks: List[Claim] = []
     for fact, holds in claims:
         if isinstance(fact, (Choice, AtPlace)):

@@ -6,19 +6,29 @@ import re
 from pathlib import Path
 from typing import Callable, Iterator, List, Optional, Sequence, Type, TypeVar, Union
 
-# Signs that a terminal obeys, such as the first one of a color, those that turn the direction of a text, and bytes of such signs.
+# Signs that a terminal obeys, such as the first one of a color, those that turn the direction of a
+# text, and bytes of such signs.
 _CONTROL = re.compile(
     "[\x00-\x08\x0b\x0c\x0e-\x1f\x7f-\x9f\u202a-\u202e\u2066-\u2069\udc80-\udc9f]"
 )
 # Advice after a fault of the operating system, by its number.
 _ADVICE = {
     "ENOENT": "look at its name and folder",
-    "EACCES": "you may not read or write it: look at its permissions and those of its folder, or choose another folder",
-    "EPERM": "you may not read or write it: look at its permissions and those of its folder, or choose another folder",
+    "EACCES": (
+        "you may not read or write it: look at its permissions and those of its folder, or choose"
+        " another folder"
+    ),
+    "EPERM": (
+        "you may not read or write it: look at its permissions and those of its folder, or choose"
+        " another folder"
+    ),
     "EROFS": "choose another folder",
     "EISDIR": "this is a folder: name a file in it",
     "ENOTDIR": "a part of its path is no folder",
-    "ENOSPC": "the disk is full: free some space, or choose another folder (TMPDIR has the temporary files)",
+    "ENOSPC": (
+        "the disk is full: free some space, or choose another folder (TMPDIR has the temporary"
+        " files)"
+    ),
     "EDQUOT": "your quota is used up: free some space, or choose another folder",
     "EFBIG": "raise your limit for the size of a file (ulimit -f), or choose another folder",
     "EIO": "the disk or its connection fails: look after it, or choose another folder",
@@ -37,7 +47,8 @@ class Misuse(Exception):
 
 
 class FileFault(Exception):
-    """A file that is not as docs/formats.md says: its path, the line (0 is the whole file), and what to change.
+    """A file that is not as docs/formats.md says: its path, the line (0 is the whole file), and
+    what to change.
 
     `fault` is the text with which `inrc2pb` reports the same fault, such as `unknown name`.
     """
@@ -85,7 +96,8 @@ class Gathering:
             self._found += several.faults
 
     def tried(self, make: Callable[[], _Value], otherwise: _Value) -> _Value:
-        """What is made; if that has a fault, which is kept, the other value, so that what comes after it is looked at too."""
+        """What is made; if that has a fault, which is kept, the other value, so that what comes
+        after it is looked at too."""
         with self.step():
             return make()
         return otherwise
@@ -136,13 +148,19 @@ def page(name: str) -> str:
 _PROGRAM_ADVICE = (
     (
         "write failed",
-        "look at the folder's name and permissions and at the free space (TMPDIR has the temporary files)",
+        (
+            "look at the folder's name and permissions and at the free space (TMPDIR has the"
+            " temporary files)"
+        ),
     ),
     ("read failed", "look at the file's name, folder and permissions"),
     ("out of memory", "end other programs"),
     (
         "UNSATISFIABLE",
-        f"the minimum numbers cannot all be met; {page('ward_reference.md')} shows how to find out why",
+        (
+            f"the minimum numbers cannot all be met; {page('ward_reference.md')} shows how to find"
+            " out why"
+        ),
     ),
     ("UNKNOWN", "give the solver more time"),
     ("answer: ", "look at what the solver prints, or use another solver"),
@@ -154,10 +172,12 @@ _PROGRAM_ADVICE = (
 
 def fault_line(fault: BaseException) -> str:
     """A fault in one line that says what to do."""
-    line, advice = str(fault), ""
+    line = str(fault)
+    advice = ""
     if isinstance(fault, OSError):
         named = f"{fault.filename}: " if fault.filename is not None else ""
-        line, advice = f"{named}{fault.strerror or fault}", _os_advice(fault)
+        line = f"{named}{fault.strerror or fault}"
+        advice = _os_advice(fault)
     elif isinstance(fault, ProgramFault):
         of_line = next((advice for part, advice in _PROGRAM_ADVICE if part in fault.message), "")
         advice = _os_advice(fault.__cause__) if isinstance(fault.__cause__, OSError) else of_line
@@ -167,7 +187,8 @@ def fault_line(fault: BaseException) -> str:
 
 
 def printable(text: str) -> str:
-    """The text with the codes of the signs that no terminal shows, and of the bytes that are no UTF-8."""
+    """The text with the codes of the signs that no terminal shows, and of the bytes that are no
+    UTF-8."""
     return "".join(char if char.isprintable() else _code(ord(char)) for char in text)
 
 
@@ -177,7 +198,8 @@ def obeyed(text: str) -> bool:
 
 
 def not_obeyed(text: str) -> str:
-    """The text with the codes of the signs that a terminal would obey, but for those that end a line."""
+    """The text with the codes of the signs that a terminal would obey, but for those that end a
+    line."""
     return _CONTROL.sub(lambda sign: printable(sign[0]), text)
 
 

@@ -1,7 +1,9 @@
-"""The files of a week: one reader and one writer of scenario, history, week data and solution files.
+"""The files of a week: one reader and one writer of scenario, history, week data and solution
+files.
 
-The readers accept exactly the files that `inrc2pb` accepts, and report a fault on the same line; docs/formats.md has the
-layouts. The values that they return are those of `records`. A `text` is what the file holds, if it was read already.
+The readers accept exactly the files that `inrc2pb` accepts, and report a fault on the same line;
+docs/formats.md has the layouts. The values that they return are those of `records`. A `text` is
+what the file holds, if it was read already.
 """
 
 from typing import Dict, Iterable, List, Optional, Tuple
@@ -123,7 +125,8 @@ def _only_once(
 
 
 def read_history(path: PathLike, scenario: Scenario, text: Optional[str] = None) -> History:
-    """Reads a history of this scenario. The week's number is compared with WEEKS by `check_week_number`."""
+    """Reads a history of this scenario. The week's number is compared with WEEKS by
+    `check_week_number`."""
     slots = Slots(path, text)
     slots.words("HISTORY")
     week = slots.number("the week's number")
@@ -163,12 +166,14 @@ def check_week_number(path: PathLike, history: History, scenario: Scenario) -> N
 
 
 def check_weeks_left(count: int, history: History, scenario: Scenario) -> None:
-    """Raises Misuse if the period has not this number of weeks left, with the week of the history."""
+    """Raises Misuse if the period has not this number of weeks left, with the week of the
+    history."""
     left = scenario.weeks - history.week
     if count > left:
         raise Misuse(
-            f"{count} weeks are given, and {left} {'is' if left == 1 else 'are'} left from {week_name(history.week)} "
-            f"of {scenario.weeks}: give only the files of weeks that are not planned yet"
+            f"{count} weeks are given, and {left} {'is' if left == 1 else 'are'} left from"
+            f" {week_name(history.week)} of {scenario.weeks}: give only the files of weeks that are"
+            " not planned yet"
         )
 
 
@@ -261,11 +266,9 @@ def _row(*words: object) -> str:
 
 def scenario_text(scenario: Scenario) -> str:
     """The text of a scenario file."""
-    types, contracts, nurses = (
-        scenario.shift_types.values(),
-        scenario.contracts.values(),
-        scenario.nurses.values(),
-    )
+    types = scenario.shift_types.values()
+    contracts = scenario.contracts.values()
+    nurses = scenario.nurses.values()
     lines = [f"SCENARIO = {scenario.name}", "", f"WEEKS = {scenario.weeks}"]
     lines += ["", f"SKILLS = {len(scenario.skills)}", *scenario.skills]
     lines += [
@@ -316,7 +319,10 @@ def week_text(data: WeekData) -> str:
 def solution_text(solution: Solution) -> str:
     """The text of a solution or fix file."""
     rows = "".join(f"{cell.row()}\n" for cell in solution.cells)
-    return f"SOLUTION\n{solution.week} {solution.scenario}\n\nASSIGNMENTS = {len(solution.cells)}\n{rows}"
+    return (
+        f"SOLUTION\n{solution.week} {solution.scenario}\n\nASSIGNMENTS ="
+        f" {len(solution.cells)}\n{rows}"
+    )
 
 
 def history_text(history: History) -> str:

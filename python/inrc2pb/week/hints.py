@@ -8,11 +8,12 @@ from .records import DAYS
 from .words import plural, quoted
 
 HEADINGS = (
-    "SCENARIO WEEKS SKILLS SHIFT_TYPES FORBIDDEN_SHIFT_TYPES_SUCCESSIONS CONTRACTS NURSES HISTORY NURSE_HISTORY WEEK_DATA REQUIREMENTS "
-    "SHIFT_OFF_REQUESTS SOLUTION ASSIGNMENTS"
+    "SCENARIO WEEKS SKILLS SHIFT_TYPES FORBIDDEN_SHIFT_TYPES_SUCCESSIONS CONTRACTS NURSES HISTORY"
+    " NURSE_HISTORY WEEK_DATA REQUIREMENTS SHIFT_OFF_REQUESTS SOLUTION ASSIGNMENTS"
 ).split()
 _COUNTED = re.compile(
-    r"\s*(?:SKILLS|SHIFT_TYPES|CONTRACTS|NURSES|SHIFT_OFF_REQUESTS|ASSIGNMENTS)\s*=\s*([0-9]{1,9})\s*$"
+    r"\s*(?:SKILLS|SHIFT_TYPES|CONTRACTS|NURSES|SHIFT_OFF_REQUESTS|ASSIGNMENTS)"
+    r"\s*=\s*([0-9]{1,9})\s*$"
 )
 _BEGINS = ("PK\x03\x04", "%PDF", "{\\rtf")
 _IN_BRACKETS = re.compile(r"\([^()]*\)")
@@ -31,7 +32,8 @@ _PAIR = re.compile(r"\(\s*[0-9]+\s*,\s*[0-9]+\s*\)")
 
 
 def words_of(row: str) -> List[str]:
-    """The words of a row. They are separated as in the files: other blanks of Unicode are letters."""
+    """The words of a row. They are separated as in the files: other blanks of Unicode are
+    letters."""
     return re.findall(r"[^ \t\r\n]+", row)
 
 
@@ -43,7 +45,8 @@ def is_no_text(text: str) -> bool:
 def reasons(
     lines: Sequence[str], line: int, word: str, names: Collection[str] = (), heading: str = ""
 ) -> str:
-    """The probable reasons of a fault at this word of a line (none: at the end of the file), as the end of its sentence.
+    """The probable reasons of a fault at this word of a line (none: at the end of the file), as the
+    end of its sentence.
 
     Each of the names should have a line below the heading.
     """
@@ -65,7 +68,8 @@ def _heading_of(line: str) -> str:
 
 
 def _rows_below(lines: Sequence[str], above: int) -> Iterator[str]:
-    """The lines below a heading, but for empty ones. A line with = is a heading too, though perhaps a wrong one."""
+    """The lines below a heading, but for empty ones. A line with = is a heading too, though perhaps
+    a wrong one."""
     for line in lines[above + 1 :]:
         if _heading_of(line) or "=" in line:
             return
@@ -80,7 +84,10 @@ def _wrong_count(lines: Sequence[str], line: int) -> Iterator[str]:
         rows = len(list(_rows_below(lines, number))) if heading else 0
         if heading and rows != int(heading.group(1)):
             follow = f"{plural(rows, 'line')} {'follows' if rows == 1 else 'follow'} it"
-            yield f"'{lines[number].strip()}' on line {number + 1} announces {heading.group(1)}, and {follow}"
+            yield (
+                f"'{lines[number].strip()}' on line {number + 1} announces {heading.group(1)}, and"
+                f" {follow}"
+            )
             return
 
 
@@ -98,7 +105,8 @@ def _without_line(lines: Sequence[str], names: Collection[str], heading: str) ->
 
 
 def _wrong_row(lines: Sequence[str], line: int) -> Iterator[str]:
-    """The mistake in the row before the fault, else in the row of the fault: a wrong number of words, or a wrong order."""
+    """The mistake in the row before the fault, else in the row of the fault: a wrong number of
+    words, or a wrong order."""
     rows = [number for number in range(line) if words_of(lines[number])]
     for number in rows[-2:]:
         section = next(
@@ -115,7 +123,8 @@ def _wrong_row(lines: Sequence[str], line: int) -> Iterator[str]:
 
 
 def _wrong_number(line: str, word: str) -> Iterator[str]:
-    """Brackets with something else than a pair, and a number with a comma, if a comma is where the fault is."""
+    """Brackets with something else than a pair, and a number with a comma, if a comma is where the
+    fault is."""
     pairs = _IN_BRACKETS.findall(line)
     wrong = next((pair for pair in pairs if not _PAIR.fullmatch(pair)), None)
     number = re.search(r"\b[0-9]+,[0-9]+\b", _IN_BRACKETS.sub(" ", line)) if word == "," else None
@@ -140,7 +149,8 @@ def _names_of(row: str) -> List[str]:
 
 
 def _blank_in(row: str, count: int) -> Optional[str]:
-    """A reason if a row begins with more words than it should have names. One with = is a heading, though a wrong one."""
+    """A reason if a row begins with more words than it should have names. One with = is a heading,
+    though a wrong one."""
     names = [] if "=" in row else _names_of(row)
     return (
         f"does a name in '{' '.join(names)}' have a blank? write _ for it"
@@ -154,7 +164,8 @@ def _announced(names: int, noun: str) -> Callable[[str], Optional[str]]:
 
     def reason(row: str) -> Optional[str]:
         words = words_of(row)
-        number, count = words[names] if len(words) > names else "", len(words) - names - 1
+        number = words[names] if len(words) > names else ""
+        count = len(words) - names - 1
         if re.fullmatch("[0-9]{1,9}", number) and int(number) != count:
             return f"{words[0]} announces {plural(int(number), noun)}, and the line has {count}"
         if len(words) > names and "=" not in row and not re.search(r"\s[0-9]", row):
@@ -165,8 +176,10 @@ def _announced(names: int, noun: str) -> Callable[[str], Optional[str]]:
 
 
 def _required(row: str) -> Optional[str]:
-    """A reason if a row has another number of pairs than days. One with = is a heading, though a wrong one."""
-    names, pairs = "" if "=" in row else " ".join(_names_of(row)), row.count("(")
+    """A reason if a row has another number of pairs than days. One with = is a heading, though a
+    wrong one."""
+    names = "" if "=" in row else " ".join(_names_of(row))
+    pairs = row.count("(")
     return (
         f"{names} has {plural(pairs, 'pair')}, and {len(DAYS)} are needed"
         if names and pairs != len(DAYS)
@@ -195,7 +208,8 @@ def _assigned(row: str) -> Optional[str]:
 
 
 def _wrong_length(row: str, count: int, says: str) -> Optional[str]:
-    """A reason if a row has another number of words. One with = is a heading, though a wrong one."""
+    """A reason if a row has another number of words. One with = is a heading, though a wrong
+    one."""
     words = words_of(row)
     if "=" in row or len(words) == count:
         return None
@@ -228,7 +242,8 @@ _ROWS: Dict[str, Callable[[str], Optional[str]]] = {
 
 
 def reason_of_signs(lines: Sequence[str], line: int, word: str) -> Optional[str]:
-    """What to write in place of signs in this line or, if it became a single word, in the one before."""
+    """What to write in place of signs in this line or, if it became a single word, in the one
+    before."""
     return next(_reasons(lines, line, word), None)
 
 
@@ -249,19 +264,24 @@ def _reasons(lines: Sequence[str], line: int, word: str) -> Iterator[str]:
         if re.search(r"[\[\]{}]", text):
             yield f"{where}write ( and ) for other brackets"
         if _BLANKS.search(text):
-            yield f"{where}it has a blank of another kind, such as a no-break space: type the blanks again, or _ in a name"
+            yield (
+                f"{where}it has a blank of another kind, such as a no-break space: type the blanks"
+                " again, or _ in a name"
+            )
     if re.fullmatch("[0-9OolI]+", word) and not word.isdigit():
         letter = next(sign for sign in word if sign in _NO_DIGITS)
         yield f"write the digit {_NO_DIGITS[letter]} for the letter {letter}"
 
 
 def of_another_kind(word: str) -> str:
-    """How to give the file that begins with this word, if it is the first of a file of the ward; else nothing."""
+    """How to give the file that begins with this word, if it is the first of a file of the ward;
+    else nothing."""
     return f": this is {_FILES[word]}" if word in _FILES else ""
 
 
 def composed_otherwise(word: str, names: Collection[str]) -> Optional[str]:
-    """The name that looks like this word, and has other bytes: an accent may be a part of its letter or a sign of its own."""
+    """The name that looks like this word, and has other bytes: an accent may be a part of its
+    letter or a sign of its own."""
     same = unicodedata.normalize("NFC", word)
     return next(
         (name for name in names if name != word and unicodedata.normalize("NFC", name) == same),

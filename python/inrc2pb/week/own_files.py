@@ -1,6 +1,7 @@
 """Files of a folder that several people may write: no link in it is followed.
 
-Whoever plans in such a folder, or serves it, would otherwise read and write with his own rights whatever another one's link leads to.
+Whoever plans in such a folder, or serves it, would otherwise read and write with his own rights
+whatever another one's link leads to.
 """
 
 import errno
@@ -17,7 +18,8 @@ def is_own_file(path: Path) -> bool:
 
 
 def own_bytes(top: Path, name: str) -> bytes:
-    """The bytes of a file below a folder, such as `calendars/Chen.ics`. Raises OSError if a part of this name is a link, or no file."""
+    """The bytes of a file below a folder, such as `calendars/Chen.ics`. Raises OSError if a part of
+    this name is a link, or no file."""
     *folders, last = name.split("/")
     inside = os.open(top, os.O_RDONLY | os.O_DIRECTORY)
     try:
@@ -52,18 +54,23 @@ def check_no_link(path: Path) -> None:
     """Raises Misuse if the path is a link."""
     if path.is_symlink():
         raise Misuse(
-            f"{path} is a link, and no link is followed here: put what it leads to in its place, or delete it"
+            f"{path} is a link, and no link is followed here: put what it leads to in its place, or"
+            " delete it"
         )
 
 
 def check_own(folder: Path) -> None:
-    """Raises FileFault if the folder is a link, or has one, or what is neither file nor folder, such as a pipe."""
+    """Raises FileFault if the folder is a link, or has one, or what is neither file nor folder,
+    such as a pipe."""
     for path in (folder, *sorted(folder.iterdir())):
         if path.is_symlink():
             raise FileFault(
                 path,
                 0,
-                "this is a link, and no link is followed here: delete it, or type undo to go back to the plan before it",
+                (
+                    "this is a link, and no link is followed here: delete it, or type undo to go"
+                    " back to the plan before it"
+                ),
             )
         if not path.is_file() and not path.is_dir():
             raise FileFault(

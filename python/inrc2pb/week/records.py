@@ -1,4 +1,5 @@
-"""A scenario, a history, a week and a roster as values. Days are numbers from 0 (Monday); `DAYS` has their names."""
+"""A scenario, a history, a week and a roster as values. Days are numbers from 0 (Monday); `DAYS`
+has their names."""
 
 from dataclasses import dataclass
 from typing import (
@@ -15,7 +16,8 @@ from typing import (
 )
 
 DAYS = ("Mon", "Tue", "Wed", "Thu", "Fri", "Sat", "Sun")
-NONE, ANY = "None", "Any"
+NONE = "None"
+ANY = "Any"
 WEEK_DAYS = len(DAYS)
 
 
@@ -28,7 +30,8 @@ class Limits(NamedTuple):
 
 @dataclass(frozen=True)
 class ShiftType:
-    """A shift type, the limits of its consecutive assignments, and the ones that may not follow it."""
+    """A shift type, the limits of its consecutive assignments, and the ones that may not follow
+    it."""
 
     name: str
     consecutive: Limits
@@ -36,7 +39,8 @@ class ShiftType:
 
 
 def successions(types: Sequence[ShiftType]) -> List[Set[int]]:
-    """For each choice of a day, the choices that may not follow it (H3): 0 is a day off, and shift types count from 1."""
+    """For each choice of a day, the choices that may not follow it (H3): 0 is a day off, and shift
+    types count from 1."""
     numbers = {shift.name: number for number, shift in enumerate(types, 1)}
     return [set(), *({numbers[name] for name in shift.forbidden_next} for shift in types)]
 
@@ -78,7 +82,8 @@ class Scenario:
         return self.contracts[self.nurses[nurse].contract]
 
     def forbids(self, before: Optional[str], after: Optional[str]) -> bool:
-        """Whether the second shift type may not follow the first one on the next day (H3). Days off (None) forbid nothing."""
+        """Whether the second shift type may not follow the first one on the next day (H3). Days off
+        (None) forbid nothing."""
         return before is not None and after in self.shift_types[before].forbidden_next
 
 
@@ -97,7 +102,8 @@ class NurseHistory:
 
 @dataclass(frozen=True)
 class History:
-    """The number of the week that comes now (0 is the first), and each nurse's history in the order of the file."""
+    """The number of the week that comes now (0 is the first), and each nurse's history in the order
+    of the file."""
 
     week: int
     scenario: str
@@ -145,7 +151,8 @@ class Absence(NamedTuple):
 
 
 class KeptLimit(NamedTuple):
-    """A maximum of a nurse's contract that may be exceeded at most so often in a plan. The kinds are those of the charges in `facts`."""
+    """A maximum of a nurse's contract that may be exceeded at most so often in a plan. The kinds
+    are those of the charges in `facts`."""
 
     nurse: str
     kind: str
@@ -154,7 +161,8 @@ class KeptLimit(NamedTuple):
 
 @dataclass(frozen=True)
 class WeekData:
-    """The requirements that the week's file lists, and its requests; the absences and limits that a file of facts has for the week."""
+    """The requirements that the week's file lists, and its requests; the absences and limits that a
+    file of facts has for the week."""
 
     name: str
     requirements: Dict[Place, Requirement]
@@ -219,7 +227,8 @@ def in_plan(rosters: Iterable[Sequence[Cell]]) -> Tuple[Cell, ...]:
 
 
 def exchanged(cells: Iterable[Cell], days: Mapping[NurseDay, NurseDay]) -> List[Cell]:
-    """The shifts after nurses' days have got those of other nurses' days, each of which is the key of the other."""
+    """The shifts after nurses' days have got those of other nurses' days, each of which is the key
+    of the other."""
     places = (
         (cell, days.get(NurseDay(cell.nurse, cell.day), NurseDay(cell.nurse, cell.day)))
         for cell in cells
@@ -228,5 +237,6 @@ def exchanged(cells: Iterable[Cell], days: Mapping[NurseDay, NurseDay]) -> List[
 
 
 def week_name(index: int) -> str:
-    """A week in words. Everybody counts weeks from 1; only the number of a history, and the names of files, count from 0."""
+    """A week in words. Everybody counts weeks from 1; only the number of a history, and the names
+    of files, count from 0."""
     return f"week {index + 1}"

@@ -1,4 +1,5 @@
-"""The tokens of a file, taken one after another, with faults that name the word and say how to fix it."""
+"""The tokens of a file, taken one after another, with faults that name the word and say how to fix
+it."""
 
 import contextlib
 import difflib
@@ -31,7 +32,11 @@ from .words import quoted
 
 MAX_FILE_LEN = 4_194_304
 MAX_NUMBER = 9999
-MAX_WEEKS, MAX_SKILLS, MAX_SHIFTS, MAX_CONTRACTS, MAX_NURSES = 52, 16, 16, 64, 1000
+MAX_WEEKS = 52
+MAX_SKILLS = 16
+MAX_SHIFTS = 16
+MAX_CONTRACTS = 64
+MAX_NURSES = 1000
 SIGNS = "(),="
 _TOKEN = re.compile(r"[(),=]|[^ \t\n\r(),=]+")
 _COMMENT_STARTS = ("#", "//", ";", "%", "/*", "<!--", "--")
@@ -47,8 +52,8 @@ class Token(NamedTuple):
 
 
 def text_of(path: PathLike) -> str:
-    """The text of a file; bytes that are not UTF-8 survive as surrogates, and `bytes_of` turns them back. Raises FileFault if it is too
-    long, or UTF-16, or begins with a byte order mark."""
+    """The text of a file; bytes that are not UTF-8 survive as surrogates, and `bytes_of` turns them
+    back. Raises FileFault if it is too long, or UTF-16, or begins with a byte order mark."""
     with open(path, "rb") as file:
         data = file.read(MAX_FILE_LEN + 1)
     if len(data) > MAX_FILE_LEN:
@@ -86,7 +91,8 @@ def _comment_hint(word: str) -> str:
 
 
 def _other_encoding(word: str, names: Iterable[str]) -> str:
-    """What to do if either the file with the word or the one with the names is not UTF-8. The names are those of the scenario."""
+    """What to do if either the file with the word or the one with the names is not UTF-8. The names
+    are those of the scenario."""
     special = [name for name in names if not name.isascii()]
     if word.isascii() or not special or is_utf8(word) == all(map(is_utf8, special)):
         return ""
@@ -112,13 +118,15 @@ def closest(word: str, names: Iterable[str]) -> Optional[str]:
 def did_you_mean(
     word: str, names: Iterable[str], otherwise: str, shown: Callable[[str], str] = str
 ) -> str:
-    """A question with the name that the word most likely means, as it is shown; without one, what else to do."""
+    """A question with the name that the word most likely means, as it is shown; without one, what
+    else to do."""
     meant = closest(word, names)
     return f"did you mean {shown(meant)}?" if meant else otherwise
 
 
 class Slots:
-    """The tokens of a file. Each method takes the next ones, or raises the fault that `inrc2pb` would report."""
+    """The tokens of a file. Each method takes the next ones, or raises the fault that `inrc2pb`
+    would report."""
 
     def __init__(self, path: PathLike, text: Optional[str] = None) -> None:
         self.path = Path(path)
@@ -131,9 +139,11 @@ class Slots:
     @contextlib.contextmanager
     def line_for_each(self, names: Collection[str], heading: str) -> Iterator[None]:
         """Within the block a fault also says which of the names have no line below the heading."""
-        self._names, self._heading = names, heading
+        self._names = names
+        self._heading = heading
         yield
-        self._names, self._heading = (), ""
+        self._names = ()
+        self._heading = ""
 
     def fault(self, token: Token, fault: str, message: str) -> NoReturn:
         """Raises a fault at this token, with its probable reasons."""
@@ -157,7 +167,8 @@ class Slots:
         raise FileFault(self.path, token.line, message, fault)
 
     def _before(self, token: Token) -> Iterator[Token]:
-        """The token before this one, if it may be a comment that was taken for a name: it is only a sign, or on an earlier line."""
+        """The token before this one, if it may be a comment that was taken for a name: it is only a
+        sign, or on an earlier line."""
         if self.at > 1 and self.tokens[self.at - 1] is token:
             before = self.tokens[self.at - 2]
             if before.text in _COMMENT_STARTS or before.line < token.line:
@@ -187,7 +198,10 @@ class Slots:
         """No token may be left."""
         if not self.ends():
             token = self.tokens[self.at]
-            message = f"'{token.text}' comes after the last {after}: remove it, or correct the number of lines announced"
+            message = (
+                f"'{token.text}' comes after the last {after}: remove it, or correct the number of"
+                " lines announced"
+            )
             self.fault(token, "text after the end", message)
 
     def words(self, *wanted: str) -> None:
@@ -266,7 +280,10 @@ class Slots:
             self.fault(
                 token,
                 "unknown name",
-                f"'{token.text}' is no {kind} of {source}: it looks like '{same}', and has other letters: copy that name",
+                (
+                    f"'{token.text}' is no {kind} of {source}: it looks like '{same}', and has"
+                    " other letters: copy that name"
+                ),
             )
         advice = did_you_mean(token.text, names, f"it has {quoted(names)}", "'{}'".format)
         message = f"'{token.text}' is no {kind} of {source}: {advice}"

@@ -1,7 +1,8 @@
 """The soft rules, as docs/rules.md has them: the name of each, what it costs, and its words.
 
-`judging.rules` says how often a roster is charged. The reports of the program, the search, the sentences and the pages read the rest here,
-so a new rule that charges something of these forms is a row of this table, a charge of the judge, and a cost of the search.
+`judging.rules` says how often a roster is charged. The reports of the program, the search, the
+sentences and the pages read the rest here, so a new rule that charges something of these forms is a
+row of this table, a charge of the judge, and a cost of the search.
 """
 
 import enum
@@ -9,7 +10,8 @@ from typing import NamedTuple
 
 
 class Form(enum.Enum):
-    """What a rule charges: too few nurses at a place, days in a row, a request, half a weekend, or a total of the period."""
+    """What a rule charges: too few nurses at a place, days in a row, a request, half a weekend, or
+    a total of the period."""
 
     PLACE = enum.auto()
     RUN = enum.auto()
@@ -19,7 +21,8 @@ class Form(enum.Enum):
 
 
 class Rule(NamedTuple):
-    """A soft rule: its name, the points of each time, what it charges, the form of its charges, and a word for what they count."""
+    """A soft rule: its name, the points of each time, what it charges, the form of its charges, and
+    a word for what they count."""
 
     name: str
     weight: int

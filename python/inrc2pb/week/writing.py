@@ -1,4 +1,5 @@
-"""Writes a text to a file as a whole: after a fault a file that was there has its old text. Checks of files before the work begins."""
+"""Writes a text to a file as a whole: after a fault a file that was there has its old text. Checks
+of files before the work begins."""
 
 import contextlib
 import errno
@@ -26,7 +27,8 @@ def is_open_file(path: Path) -> bool:
 
 
 def write_text(path: PathLike, text: str) -> None:
-    """Writes a text to a file, with the bytes that its reader found. After a fault a file that was there has its old text."""
+    """Writes a text to a file, with the bytes that its reader found. After a fault a file that was
+    there has its old text."""
     target = file_at(path)
     try:
         if target.is_file() and not target.is_symlink() and not _may_be_replaced(target):
@@ -41,7 +43,8 @@ def write_text(path: PathLike, text: str) -> None:
 
 @contextlib.contextmanager
 def replacing(path: PathLike) -> Iterator[TextIO]:
-    """A new file that takes the place of this one at the end of the block; after a fault it is removed, and the old one stays.
+    """A new file that takes the place of this one at the end of the block; after a fault it is
+    removed, and the old one stays.
 
     Only a device, and a file in a folder that takes no new one, are written at once.
     """
@@ -55,19 +58,35 @@ def replacing(path: PathLike) -> Iterator[TextIO]:
 
 
 def write_own_text(path: Path, text: str) -> None:
-    """Writes a text to a file of a folder that others may write too: it takes the place of a link."""
+    """Writes a text to a file of a folder that others may write too: it takes the place of a
+    link."""
     try:
         with replacing_link(path) as file:
             file.write(text)
     except OSError as fault:
-        fault.filename, fault.filename2 = str(path), None
+        fault.filename = str(path)
+        fault.filename2 = None
         raise
+
+
+def flush(path: Path) -> None:
+    """Returns when the bytes of a file, or the names in a folder, are on the disk: a power cut
+    leaves them. Some shares flush no folders."""
+    handle = os.open(path, os.O_RDONLY | os.O_NOFOLLOW)
+    try:
+        os.fsync(handle)
+    except OSError as fault:
+        if fault.errno not in (errno.EINVAL, errno.ENOTSUP):
+            raise
+    finally:
+        os.close(handle)
 
 
 @contextlib.contextmanager
 def replacing_link(target: Path, path: Optional[PathLike] = None) -> Iterator[TextIO]:
-    """A new file that takes the place of this one, or of a link, which is not followed, at the end of the block; after a fault it is
-    removed, and the old one stays. A fault names the path, if it is given."""
+    """A new file that takes the place of this one, or of a link, which is not followed, at the end
+    of the block; after a fault it is removed, and the old one stays. A fault names the path, if it
+    is given."""
     mode = target.stat().st_mode & 0o777 if target.is_file() and not target.is_symlink() else None
     name = target.with_name(f".{target.name[:50]}.{os.urandom(4).hex()}")
     try:
@@ -92,7 +111,8 @@ def replacing_link(target: Path, path: Optional[PathLike] = None) -> Iterator[Te
 
 
 def _may_be_replaced(target: Path) -> bool:
-    """Whether a new file may take the place of this one: it is no device and no link, it may be written, and its folder takes a new file.
+    """Whether a new file may take the place of this one: it is no device and no link, it may be
+    written, and its folder takes a new file.
 
     To replace a file the system asks for its folder's permission only.
     """
@@ -101,7 +121,8 @@ def _may_be_replaced(target: Path) -> bool:
 
 
 def _overwrite(target: Path, data: bytes) -> None:
-    """Writes over a file in its place. After a fault its old bytes are written back: they need no new space."""
+    """Writes over a file in its place. After a fault its old bytes are written back: they need no
+    new space."""
     old = target.read_bytes()
     try:
         _write_over(target, data)
@@ -119,7 +140,8 @@ def _write_over(target: Path, data: bytes) -> None:
 def check_inputs_stay(
     inputs: Iterable[Optional[Path]], target: Path, what: str, choose: str = "file"
 ) -> None:
-    """Raises Misuse if the target would replace a file that the command reads, by its path or by a link."""
+    """Raises Misuse if the target would replace a file that the command reads, by its path or by a
+    link."""
     for path in inputs:
         if path and path.is_file() and target.is_file() and os.path.samefile(path, target):
             raise Misuse(
@@ -132,6 +154,13 @@ def check_no_pipes(inputs: Iterable[Optional[Path]]) -> None:
     for path in inputs:
         if path and _is_pipe(path):
             raise Misuse(f"{path} is a pipe, which can be read only once: give a file")
+
+
+def check_no_devices(inputs: Iterable[Path]) -> None:
+    """Raises Misuse if one of these files, which may be long, is a device: it may have no end."""
+    for path in inputs:
+        if path.is_char_device() or path.is_block_device():
+            raise Misuse(f"{path} is a device, which may have no end: give a file")
 
 
 def check_no_pipe_is_written(target: Path) -> None:
@@ -149,7 +178,8 @@ def _is_pipe(path: Path) -> bool:
 
 
 def check_target(solution: Path) -> None:
-    """Raises Misuse or OSError if the file cannot be written. A device such as /dev/null shows that only when it is written."""
+    """Raises Misuse or OSError if the file cannot be written. A device such as /dev/null shows that
+    only when it is written."""
     target = file_at(solution)
     if target.is_dir():
         raise IsADirectoryError(errno.EISDIR, os.strerror(errno.EISDIR), str(solution))

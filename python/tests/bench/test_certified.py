@@ -1,6 +1,8 @@
-"""Tests of bench/certified: the instances are always the same, and the programs confirm what is known of some of them."""
+"""Tests of certified: the instances are always the same, and the programs confirm what is known of
+some of them."""
 
 import hashlib
+import shutil
 import subprocess
 import sys
 import tempfile
@@ -10,8 +12,9 @@ from pathlib import Path
 from ward import ROOT, program
 
 from inrc2pb.search.bounds import find_prover
+from inrc2pb.week.soft_rules import SOFT_RULES
 
-CERTIFIED = ROOT / "bench" / "certified"
+CERTIFIED = ROOT / "certified"
 sys.path.insert(0, str(CERTIFIED))
 
 import certify  # noqa: E402
@@ -19,6 +22,22 @@ import instances  # noqa: E402
 
 # Instances whose certificates are checked at each run of the tests.
 CHECKED = ("small-5-first", "last-12", "early-fix-20", "none-12", "wide-40x6", "period-12x2")
+
+
+def checked(folder, *names):
+    """The status and the lines of a folder's check.sh for these instances."""
+    environment = {
+        "INRC2PB": str(program.find_program()),
+        "PATH": "/usr/bin:/bin",
+    }
+    ran = subprocess.run(
+        [str(folder / "check.sh"), *names],
+        stdout=subprocess.PIPE,
+        stderr=subprocess.STDOUT,
+        text=True,
+        env=environment,
+    )
+    return ran.returncode, ran.stdout.splitlines()
 
 
 class Certified(unittest.TestCase):
@@ -54,25 +73,67 @@ class Certified(unittest.TestCase):
 
     @unittest.skipUnless(find_prover(), "needs inrc2pb-bound")
     def test_the_programs_confirm_some(self):
-        script, environment = CERTIFIED / "check.sh", {
-            "INRC2PB": str(program.find_program()),
-            "PATH": "/usr/bin:/bin",
-        }
-        ran = subprocess.run(
-            [str(script), *CHECKED],
-            stdout=subprocess.PIPE,
-            stderr=subprocess.STDOUT,
-            text=True,
-            env=environment,
-        )
+        status, lines = checked(CERTIFIED, *CHECKED)
         self.assertEqual(
-            (ran.returncode, ran.stdout.splitlines()[-1]),
-            (0, f"{len(CHECKED)} confirmed, 0 failed"),
-            ran.stdout,
+            (status, lines[-1]), (0, f"{len(CHECKED)} confirmed, 0 failed"), "\n".join(lines)
         )
 
     @unittest.skipUnless(find_prover(), "needs inrc2pb-bound")
-    def test_a_wrong_row_is_told(self):
+    def test_each_instance_has_one_row_with_its_sizes(self):
+        lines = certify.TABLE.read_text().splitlines()
+        rows = {line.split()[0]: line for line in lines}
+        named = ("small-5-first", "small-5-second", "small-5-last", "small-6-first", "small-6-last")
+        gone, misspelt, right, variables, constraints = named
+        changed = {
+            gone: [],
+            misspelt: [rows[misspelt].replace("second", "secnd")],
+            variables: [rows[variables].replace(" 598 514 ", " 599 514 ")],
+            constraints: [rows[constraints].replace(" 632 539 ", " 632 538 ")],
+        }
+        with tempfile.TemporaryDirectory() as room:
+            folder = Path(room, "certified")
+            folder.mkdir()
+            shutil.copy(CERTIFIED / "check.sh", folder)
+            for name in ("instances.py", "known"):
+                folder.joinpath(name).symlink_to(CERTIFIED / name)
+            table = [line for name, row in rows.items() for line in changed.get(name, [row])]
+            folder.joinpath("table.txt").write_text("\n".join(table) + "\n")
+            status, said = checked(folder, *named)
+        self.assertEqual(status, 1)
+        self.assertEqual(
+            said,
+            [
+                f"{gone}: certified/table.txt has not one row of it",
+                f"{misspelt}: certified/table.txt has not one row of it",
+                f"{right}: lower bound 520 penalty 520 optimal",
+                f"{variables}: other sizes",
+                f"{constraints}: other sizes",
+                "1 confirmed, 4 failed",
+            ],
+        )
+
+    def test_weeks_for_another_validator(self):
+        with tempfile.TemporaryDirectory() as room:
+            printed = subprocess.run(
+                [sys.executable, str(CERTIFIED / "costs.py"), room],
+                stdout=subprocess.PIPE,
+                text=True,
+                check=True,
+            ).stdout
+            head, *rows = (line.split() for line in printed.splitlines())
+            self.assertEqual(head, ["week", "penalty", *SOFT_RULES])
+            self.assertEqual(len(rows), 10)
+            for name, penalty, *costs in rows:
+                # Half a weekend costs 30.
+                best = int(certify.rows()[name].best) + 30 * (name == "first-20")
+                self.assertEqual((int(penalty), sum(map(int, costs))), (best, best))
+                solution = Path(room, name, "roster.txt").read_text()
+                self.assertTrue(solution.startswith("SOLUTION\n"))
+        for rule, *costs in zip(*(row[2:] for row in (head, *rows))):
+            self.assertGreater(sum(map(int, costs)), 0, rule)
+
+    @unittest.skipUnless(find_prover(), "needs inrc2pb-bound")
+    def test_the_row_of_an_instance_is_computed(self):
         row = certify.rows()["last-12"]
         with tempfile.TemporaryDirectory() as room:
             files = instances.make(instances.named("last-12"), Path(room))

@@ -80,7 +80,8 @@ class MadeWards(HelperTest):
         )
 
     def weeks(self, nurses, *options):
-        """The weeks of a ward. Those in the middle get the first one's history: planning makes their own."""
+        """The weeks of a ward. Those in the middle get the first one's history: planning makes
+        their own."""
         ward = self.made(nurses, *options)
         for number in range(4):
             past = 3 if number == 3 else 0

@@ -359,7 +359,10 @@ class Mistakes(HelperTest):
 
     def test_each_verb_says_that_a_row_is_missing(self):
         roster = self.changed(ROSTER, "Amara Mon Day Charge\n", "")
-        said = f"{roster} line 36: the file ends where a nurse should come; 'ASSIGNMENTS = 33' on line 4 announces 33, and 32 lines follow it"
+        said = (
+            f"{roster} line 36: the file ends where a nurse should come; 'ASSIGNMENTS = 33' on line"
+            " 4 announces 33, and 32 lines follow it"
+        )
         self.assertEqual(
             run("roster", "check", "--sce", SCENARIO, "--roster", roster), (1, said + "\n", "")
         )
@@ -425,7 +428,10 @@ class Mistakes(HelperTest):
             _, printed, _ = run("roster", "check", "--sce", ward, "--his", past)
             self.assertEqual(
                 printed,
-                f"{past} line 8: 'Dilak' is no nurse of NURSES: did you mean 'Dilek'?; no line begins with Dilek\n",
+                (
+                    f"{past} line 8: 'Dilak' is no nurse of NURSES: did you mean 'Dilek'?; no line"
+                    " begins with Dilek\n"
+                ),
             )
 
     def test_a_name_that_begins_like_a_comment(self):
@@ -435,7 +441,10 @@ class Mistakes(HelperTest):
         past.write_text(past.read_text().replace("#1 0", "#12 0"))
         _, printed, _ = run("roster", "check", "--sce", ward, "--his", past)
         self.assertIn(
-            f"{past} line 7: '#12' is no nurse of NURSES: did you mean '#1'?; '#12' looks like a comment",
+            (
+                f"{past} line 7: '#12' is no nurse of NURSES: did you mean '#1'?; '#12' looks like"
+                " a comment"
+            ),
             printed,
         )
 
@@ -445,7 +454,10 @@ class Mistakes(HelperTest):
                 "roster", "check", "--sce", self.changed(SCENARIO, "Chen", "#Chen"), option, path
             )
             self.assertIn(
-                "'Chen' is no nurse of NURSES: did you mean '#Chen'?; '#Chen' looks like a comment: the files have none, so remove it",
+                (
+                    "'Chen' is no nurse of NURSES: did you mean '#Chen'?; '#Chen' looks like a"
+                    " comment: the files have none, so remove it"
+                ),
                 printed,
             )
 
@@ -475,7 +487,10 @@ class Mistakes(HelperTest):
                 SCENARIO,
                 "Chen Full",
                 "Chen\u00a0Full",
-                "it has a blank of another kind, such as a no-break space: type the blanks again, or _ in a name",
+                (
+                    "it has a blank of another kind, such as a no-break space: type the blanks"
+                    " again, or _ in a name"
+                ),
             ),
             (HISTORY, "Chen 0", "Chen O", "write the digit 0 for the letter O"),
             (HISTORY, "Chen 0", "Chen l", "write the digit 1 for the letter l"),
@@ -503,15 +518,16 @@ class Mistakes(HelperTest):
         status, printed, _ = run(
             "roster", "check", "--sce", SCENARIO, "--his", WEEK, "--week", HISTORY
         )
-        history, week = (
-            f"{WEEK} line 1: 'WEEK_DATA' where 'HISTORY' should be",
-            f"{HISTORY} line 1: 'HISTORY' where 'WEEK_DATA' should be",
-        )
+        history = f"{WEEK} line 1: 'WEEK_DATA' where 'HISTORY' should be"
+        week = f"{HISTORY} line 1: 'HISTORY' where 'WEEK_DATA' should be"
         self.assertEqual(
             (status, printed),
             (
                 1,
-                f"{history}: this is a week's file: give it with --week\n{week}: this is a history: give it with --his\n",
+                (
+                    f"{history}: this is a week's file: give it with --week\n{week}: this is a"
+                    " history: give it with --his\n"
+                ),
             ),
         )
 
@@ -530,9 +546,8 @@ class Mistakes(HelperTest):
         self.assert_fault(run("roster", "check", *WEEK_OPTIONS, "--roster", pipe), line)
 
     def test_a_path_that_leads_nowhere_is_one_mistake(self):
-        wrong, broken = self.folder / ("r" * 300), self.changed(
-            ROSTER, "Amara Mon Day Charge", "Amara Mon Dai Charge"
-        )
+        wrong = self.folder / ("r" * 300)
+        broken = self.changed(ROSTER, "Amara Mon Day Charge", "Amara Mon Dai Charge")
         status, printed, said = run(
             "roster", "check", *WEEK_OPTIONS, "--roster", wrong, "--roster", broken
         )
@@ -626,7 +641,10 @@ class Mistakes(HelperTest):
             self.assertIn(part, printed)
 
     def test_no_file(self):
-        line = "inrc2pb-roster: no scenario is given: give --sce FILE, and the files to check; is WEEK set in this terminal?"
+        line = (
+            "inrc2pb-roster: no scenario is given: give --sce FILE, and the files to check; is WEEK"
+            " set in this terminal?"
+        )
         self.assert_fault(run("roster", "check"), line)
 
     def test_a_file_that_is_missing(self):
@@ -638,7 +656,8 @@ class Mistakes(HelperTest):
         )
 
 
-# Rows that no roster can have, the line of the fault, and its reason. Amara was on Day on Sunday, Dilek on Night.
+# Rows that no roster can have, the line of the fault, and its reason. Amara was on Day on Sunday,
+# Dilek on Night.
 HELD = [
     (("Amara Tue Day Charge", "Chen Mon Day Charge"), 6, "Chen does not have the skill Charge"),
     (

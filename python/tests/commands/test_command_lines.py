@@ -1,4 +1,5 @@
-"""Tests of the command lines: hints after a wrong word, options that are given twice, and Ctrl-C at the start."""
+"""Tests of the command lines: hints after a wrong word, options that are given twice, and Ctrl-C at
+the start."""
 
 import contextlib
 import functools
@@ -31,7 +32,8 @@ FILES = ("--sce", SCENARIO, "--his", HISTORY)
 
 class Words(HelperTest):
     def test_words_that_do_not_fit_have_their_advice(self):
-        solve, check = ("solve", "--out", "best.txt"), ("roster", "check")
+        solve = ("solve", "--out", "best.txt")
+        check = ("roster", "check")
         for words, command, line in (
             (
                 (*solve, *FILES, "--week", WEEK, "--tine", "5"),
@@ -41,7 +43,10 @@ class Words(HelperTest):
             (
                 ("roster", "fits", "Mon,", "Tue", *FILES, "--week", WEEK),
                 "roster fits",
-                "unrecognized arguments: Mon, Tue: write no blank between the days or names, as in Mon,Tue",
+                (
+                    "unrecognized arguments: Mon, Tue: write no blank between the days or names, as"
+                    " in Mon,Tue"
+                ),
             ),
             (
                 ("roster", "next", *FILES, ROSTER),
@@ -71,7 +76,10 @@ class Words(HelperTest):
             (
                 solve,
                 "solve",
-                "the following arguments are required: --sce, --his, --week: is WEEK set in this terminal?",
+                (
+                    "the following arguments are required: --sce, --his, --week: is WEEK set in"
+                    " this terminal?"
+                ),
             ),
             (
                 (*solve, *FILES, "--week", WEEK, "--time", "2,5"),
@@ -159,7 +167,8 @@ class Twice(HelperTest):
             run("roster", "check", *WEEK_OPTIONS, "--roster", ROSTER, "--roster", ROSTER)[0], 0
         )
         self.assertEqual(run("roster", "check", *WEEK_OPTIONS, "--roster", ROSTER, ROSTER)[0], 0)
-        fixes, rosters = ("--fix", f"1={ROSTER}", "--fix", f"2={ROSTER}"), (
+        fixes = ("--fix", f"1={ROSTER}", "--fix", f"2={ROSTER}")
+        rosters = (
             "--roster",
             ROSTER,
             ROSTER,
@@ -235,7 +244,8 @@ class Starting(HelperTest):
                 "--out",
                 str(self.folder / "week.lp"),
             ]
-            # A gate that runs on after its terminal is closed ignores HUP, and so would the conversion.
+            # A gate that runs on after its terminal is closed ignores HUP, and so would the
+            # conversion.
             heeds = functools.partial(signal.signal, number, signal.SIG_DFL)
             with subprocess.Popen(
                 command,
@@ -311,7 +321,8 @@ class Output(HelperTest):
         return shown
 
     def test_control_characters_of_names_reach_no_terminal(self):
-        name, files_of_week = "\x1b[31mChen\x07\u202e", {}
+        name = "\x1b[31mChen\x07\u202e"
+        files_of_week = {}
         for path in (SCENARIO, HISTORY, WEEK, ROSTER):
             files_of_week[path] = self.folder / path.name
             files_of_week[path].write_text(path.read_text().replace("Chen", name))

@@ -16,7 +16,10 @@ from inrc2pb.commands.competition import search_seconds, seconds_since_start
 class Simulation(HelperTest):
     def test_one_file_for_two_results(self):
         target = self.folder / "solution.txt"
-        line = f"inrc2pb-solve: {target} gets the roster, so the number of the next week cannot be written to it: choose another file"
+        line = (
+            f"inrc2pb-solve: {target} gets the roster, so the number of the next week cannot be"
+            " written to it: choose another file"
+        )
         self.assert_fault(
             run(
                 "solve",
@@ -83,13 +86,15 @@ class Simulation(HelperTest):
         self.assertRegex(said, "^inrc2pb-solve: --timeout 0.5: no roster was found in 0.2 s: ")
 
     def test_a_search_has_what_is_left_of_the_time_and_its_solver_is_ended(self):
-        given, searches = self.folder / "seconds", competition.search
+        given = self.folder / "seconds"
+        searches = competition.search
 
         def searched(*words, seconds, **named):
             given.write_text(str(seconds))
             return searches(*words, seconds=seconds, **named)
 
-        # After its first answer the solver does not end. Of a minute three seconds are for the end of the process.
+        # After its first answer the solver does not end. Of a minute three seconds are for the end
+        # of the process.
         words = (
             "--timeout",
             60,
@@ -107,7 +112,8 @@ class Simulation(HelperTest):
 
     @unittest.skipUnless(shutil.which("clasp"), "needs clasp")
     def test_the_command_line_of_the_competition(self):
-        solution, custom = self.folder / "solution.txt", self.folder / "custom.txt"
+        solution = self.folder / "solution.txt"
+        custom = self.folder / "custom.txt"
         words = ("--sol", solution, "--cusOut", custom, "--rand", 7, "--timeout", ENOUGH)
         status, printed, said = run("solve", "--inrc2", *WEEK_OPTIONS, *words, "--solver", "clasp")
         self.assertEqual(status, 0, said)

@@ -1,8 +1,9 @@
 """Tests of `inrc2pb-roster next` on weeks and rosters made at random.
 
-Its numbers are those of the definitions of docs/rules.md, counted here from Sunday backwards, and `inrc2pb` reads what was written as the
-next week's history. Four weeks in a row go through clasp, where that is installed. The files are formatted here: the library's writers
-are tested, and they cannot write a wrong name.
+Its numbers are those of the definitions of docs/rules.md, counted here from Sunday backwards, and
+`inrc2pb` reads what was written as the next week's history. Four weeks in a row go through clasp,
+where that is installed. The files are formatted here: the library's writers are tested, and they
+cannot write a wrong name.
 """
 
 import random
@@ -56,7 +57,8 @@ def run(*words, given=None):
 
 
 def trailing(days, has, before):
-    """The days with the property up to Sunday, and those before Monday where no day of the week lacks it."""
+    """The days with the property up to Sunday, and those before Monday where no day of the week
+    lacks it."""
     count = 0
     for shift in reversed(days):
         if not has(shift):
@@ -74,9 +76,11 @@ def wanted_row(past, days):
         assignments + len(works),
         weekends + (1 if days[5] or days[6] else 0),
         sunday or "None",
-        trailing(days, lambda shift: shift == sunday, shift_run if last == sunday else 0)
-        if sunday
-        else 0,
+        (
+            trailing(days, lambda shift: shift == sunday, shift_run if last == sunday else 0)
+            if sunday
+            else 0
+        ),
         trailing(days, bool, work_run),
         trailing(days, lambda shift: not shift, off_run),
     ]

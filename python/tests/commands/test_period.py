@@ -39,9 +39,11 @@ MONTH = ROOT / "examples" / "month"
 WARD_OPTIONS = ("--sce", SCENARIO, "--his", HISTORY, "--week", WEEK, "--week", WARD / "week-1.txt")
 # The line with which the first week begins.
 BEGIN = f"week 1, {WEEK}\n"
+BEGIN_OF_TWO = f"weeks 1 to 2 one after another, at most {ENOUGH} seconds in all\n{BEGIN}"
 MONTH_OPTIONS = ("--sce", MONTH / "ward.txt", "--his", MONTH / "history-0.txt")
 MONTH_WEEKS = [word for number in range(4) for word in ("--week", MONTH / f"week-{number}.txt")]
-# A solver that prints what is not an answer, one that crashes, and one whose answer `decode` rejects.
+# A solver that prints what is not an answer, one that crashes, and one whose answer `decode`
+# rejects.
 BAD_SOLVERS = ["echo nonsense", "false", "sh -c 'echo s SATISFIABLE'", "sh -c 'kill -9 $$'"]
 
 
@@ -92,7 +94,7 @@ class Together(PeriodTest):
         )
         self.assertEqual(status, 0, said)
         self.assert_period(printed, WARD_OPTIONS, 2, "--early" in totals)
-        self.assertIn(f"weeks 1 to 2 together, at most {2 * ENOUGH} s\n", said)
+        self.assertIn(f"weeks 1 to 2 together, at most {ENOUGH} seconds in all\n", said)
         return printed.splitlines()[-1]
 
     def test_thirty_nurses_in_four_weeks(self):
@@ -140,7 +142,10 @@ class Together(PeriodTest):
         self.assertEqual((status, printed), (5, ""))
         self.assertRegex(
             said.splitlines()[-1],
-            "^inrc2pb-solve: no rosters keep the hard rules of these weeks together, by plain Python: ",
+            (
+                "^inrc2pb-solve: no rosters keep the hard rules of these weeks together, by plain"
+                " Python: "
+            ),
         )
 
     def test_absences(self):
@@ -148,7 +153,10 @@ class Together(PeriodTest):
             (("Chen=Fri",), "^$"),
             (
                 ("Amara=Fri", "Bruno=Fri", "Ewa=Fri"),
-                "^inrc2pb-solve: week 2: no roster was found that keeps every absence: (Amara|Bruno|Ewa) works Day on Fri$",
+                (
+                    "^inrc2pb-solve: week 2: no roster was found that keeps every absence:"
+                    " (Amara|Bruno|Ewa) works Day on Fri$"
+                ),
             ),
         ):
             options = (*WEEK_OPTIONS, "--week", self.away(*away, week=WARD / "week-1.txt"))
@@ -204,7 +212,10 @@ class Periods(PeriodTest):
             (1, ""),
             (
                 3,
-                f"inrc2pb-solve: {held}: line 1 has week 3, and the history has week 1: is the file of another week?\n",
+                (
+                    f"inrc2pb-solve: {held}: line 1 has week 3, and the history has week 1: is the"
+                    " file of another week?\n"
+                ),
             ),
         ):
             held.write_text(f"SOLUTION {week} ward ASSIGNMENTS = 1 Grace Sat Day Nurse\n")
@@ -212,7 +223,7 @@ class Periods(PeriodTest):
             replaced = f"files that are replaced: {files_of}\n" if week == 3 else ""
             self.assertEqual(
                 (status, without_progress(said)),
-                (0, f"{replaced}{BEGIN}week 2, {WARD / 'week-1.txt'}\n{hint}"),
+                (0, f"{replaced}{BEGIN_OF_TWO}week 2, {WARD / 'week-1.txt'}\n{hint}"),
             )
             self.assertIn("Grace Sat Day Nurse\n", (self.folder / "roster-1.txt").read_text())
 
@@ -233,15 +244,27 @@ class PeriodFaults(PeriodTest):
         self.assertNotIn("stopped", printed)
         self.assertRegex(
             said.splitlines()[-1],
-            "^inrc2pb-solve: week 2: the solver sh has no answer: it printed no answer and ended with status 1; try its command by hand$",
+            (
+                "^inrc2pb-solve: week 2: the solver sh has no answer: it printed no answer and"
+                " ended with status 1; try its command by hand$"
+            ),
         )
 
+    def test_each_week_has_an_equal_part_of_the_time_that_is_left(self):
+        # The solver of the first week ends at once, so the second week has its time, too.
+        log = self.folder / "log"
+        answer = self.folder / "answer.txt"
+        answer.write_text(program.answer_with(WEEK_FILES, ROSTER))
+        solver = f"sh -c 'echo {{seconds}} >> {log}; cat {answer}'"
+        words = ("--out", self.folder / "out", "--time", 100, "--solver", solver)
+        run("solve", *WARD_OPTIONS, *words)
+        first, second = map(float, log.read_text().split())
+        self.assertTrue(40 < first <= 50 and 80 < second < 100, (first, second))
+
     def test_after_the_last_week_the_command_for_the_next_period_is_printed(self):
-        ward, answer, out = (
-            self.changed(SCENARIO, "WEEKS = 4", "WEEKS = 1"),
-            self.folder / "answer.txt",
-            self.folder / "my out",
-        )
+        ward = self.changed(SCENARIO, "WEEKS = 4", "WEEKS = 1")
+        answer = self.folder / "answer.txt"
+        out = self.folder / "my out"
         out.mkdir()
         answer.write_text(program.answer_with(replace(WEEK_FILES, scenario=ward), ROSTER))
         words = (
@@ -258,7 +281,10 @@ class PeriodFaults(PeriodTest):
         )
         for replaced in ("", f"files that are replaced: {out}/roster-0.txt\n"):
             status, printed, said = run("solve", *words)
-            command = f"inrc2pb-roster next --sce {ward} --his {HISTORY} --roster '{out}/roster-0.txt' --new-period --out '{out}/history-new.txt'"
+            command = (
+                f"inrc2pb-roster next --sce {ward} --his {HISTORY} --roster '{out}/roster-0.txt'"
+                f" --new-period --out '{out}/history-new.txt'"
+            )
             line = f"to make the first history of the next period, type: {command}\n"
             self.assertEqual((status, without_progress(said)), (0, f"{replaced}{BEGIN}{line}"))
         self.assertEqual(run(*shlex.split(command.replace("inrc2pb-", "", 1))), (0, "", ""))
@@ -269,14 +295,19 @@ class PeriodFaults(PeriodTest):
             status, printed, said = self.period(*WARD_OPTIONS, "--solver", solver)
             self.assertNotEqual(status, 0)
             self.assertEqual(
-                (said.count("\n"), said.startswith(f"{BEGIN}inrc2pb-solve: week 1: "), printed),
-                (2, True, ""),
+                (
+                    said.count("\n"),
+                    said.startswith(f"{BEGIN_OF_TWO}inrc2pb-solve: week 1: "),
+                    printed,
+                ),
+                (3, True, ""),
                 said,
             )
         self.assertEqual(list(self.folder.iterdir()), [])
 
     def stopped(self, at_end, environment=None):
-        """A period that gets TERM when the file `started` exists, while its solver runs. The solver then does this."""
+        """A period that gets TERM when the file `started` exists, while its solver runs. The solver
+        then does this."""
         started = self.folder / "started"
         started.unlink(missing_ok=True)
         solver = f"sh -c 'trap \"{at_end}; exit 1\" TERM; touch {started}; sleep 60 & wait'"
@@ -296,7 +327,7 @@ class PeriodFaults(PeriodTest):
         answer = self.folder / "answer.txt"
         answer.write_text(program.answer_with(WEEK_FILES, ROSTER))
         status, printed, said = self.stopped(f"cat {answer}")
-        self.assertEqual((status, without_progress(said)), (130, BEGIN))
+        self.assertEqual((status, without_progress(said)), (143, BEGIN_OF_TWO))
         self.assert_period(printed, WARD_OPTIONS, 1)
         self.assertEqual(printed.splitlines()[-1], "stopped: week 1 is planned, week 2 is not")
         self.assertTrue((self.folder / "history-1.txt").exists())
@@ -316,13 +347,19 @@ class PeriodFaults(PeriodTest):
         for at_end in (":", "echo s UNKNOWN"):
             ended = self.stopped(at_end)
             self.assertEqual(
-                ended, (1, "", f"{BEGIN}inrc2pb-solve: week 1: stopped before the first roster\n")
+                ended,
+                (
+                    143,
+                    "",
+                    f"{BEGIN_OF_TWO}inrc2pb-solve: week 1: stopped before the first roster\n",
+                ),
             )
 
     def test_a_stop_does_not_wait_for_a_model(self):
         ended = self.stopped(":", self.slow_to_encode(self.folder / "started"))
         self.assertEqual(
-            ended, (1, "", f"{BEGIN}inrc2pb-solve: week 1: stopped before the first roster\n")
+            ended,
+            (143, "", f"{BEGIN_OF_TWO}inrc2pb-solve: week 1: stopped before the first roster\n"),
         )
 
     def test_without_a_solver_or_the_program_no_folder_is_made(self):
@@ -385,7 +422,10 @@ class PeriodFaults(PeriodTest):
         self.assertEqual((status, printed), (1, ""))
         self.assertRegex(
             said,
-            r"week 2: no roster keeps the hard rules( \(inrc2pb-bound\)|, says sh, which is not proved): ",
+            (
+                r"week 2: no roster keeps the hard rules( \(inrc2pb-bound\)|, says sh, which is not"
+                r" proved): "
+            ),
         )
 
     def test_files_that_do_not_fit(self):
@@ -421,7 +461,10 @@ class PeriodFaults(PeriodTest):
         )
         self.assertEqual(
             said,
-            "inrc2pb-solve: --fix 01=b.txt: week 1 has the file a.txt: put all rows into one file\n",
+            (
+                "inrc2pb-solve: --fix 01=b.txt: week 1 has the file a.txt: put all rows into one"
+                " file\n"
+            ),
         )
         _, _, said = self.period(*WARD_OPTIONS, "--roster", ROSTER)
         self.assertEqual(
@@ -446,7 +489,10 @@ class PeriodFaults(PeriodTest):
         hint = "line 2 has week 3, and the history has week 1: is the file of another week?"
         self.assertEqual(
             said,
-            f"inrc2pb-solve: {fix} line 5: Chen does not have the skill Charge: no roster can have this row; {hint}\n",
+            (
+                f"inrc2pb-solve: {fix} line 5: Chen does not have the skill Charge: no roster can"
+                f" have this row; {hint}\n"
+            ),
         )
         wrong = self.changed(WEEK, "Chen Any", "Chan Any")
         _, _, said = self.period("--sce", SCENARIO, "--his", HISTORY, "--week", wrong)

@@ -34,7 +34,8 @@ from inrc2pb.search.best_roster import BestRoster
 from inrc2pb.programs.program import penalty_of
 from inrc2pb.week.records import Absence, Cell, Request
 
-WARD, DATA = files.read_scenario(SCENARIO), files.read_week(WEEK, files.read_scenario(SCENARIO))
+WARD = files.read_scenario(SCENARIO)
+DATA = files.read_week(WEEK, files.read_scenario(SCENARIO))
 AWAY = Absence("Chen", 4, None)
 
 

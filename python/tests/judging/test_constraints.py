@@ -16,7 +16,8 @@ class Names(HelperTest):
     def names(self, files, *more):
         """The lines of the names of a week's model, by their first word."""
         program.encode(files, self.model)
-        status, printed, said = run("roster", "names", self.model, *files.options(), *more)
+        # The model may come after the files of the week, as in `names $WEEK week.opb`.
+        status, printed, said = run("roster", "names", *files.options(), *more, self.model)
         self.assertEqual((status, said), (0, ""))
         found = [line.split(" ", 1) for line in printed.splitlines()]
         self.assertEqual(len({name for name, _ in found}), len(found))
@@ -35,7 +36,8 @@ class Names(HelperTest):
         ):
             names = self.names(files)
             head = self.model.read_text().split("\n", 1)[0].split()
-            variables, constraints = int(head[2]), int(head[4])
+            variables = int(head[2])
+            constraints = int(head[4])
             self.assertEqual(
                 set(names),
                 {f"x{n}" for n in range(1, variables + 1)}
@@ -43,12 +45,16 @@ class Names(HelperTest):
             )
 
     def test_names_of_the_ward(self):
-        # Seven nurses, three shift types and two skills: the unit variable has number 7*7*3*2 + 1, and the page on models has c299.
+        # Seven nurses, three shift types and two skills: the unit variable has number 7*7*3*2 + 1,
+        # and the page on models has c299.
         names = self.names(WEEK_FILES)
         self.assertEqual((names["x1"], names["x295"]), ("cell Amara Mon Day Charge", "unit"))
         self.assertEqual(
             names["c1"],
-            "unit the unit variable is true; an answer that violates it is cut off, or is of another week",
+            (
+                "unit the unit variable is true; an answer that violates it is cut off, or is of"
+                " another week"
+            ),
         )
         self.assertEqual(names["c60"], "H2 Wed Day Nurse needs at least 1")
         self.assertEqual(names["c298"], "S2 runs of Day of Chen should be at most 5")
@@ -60,7 +66,10 @@ class Names(HelperTest):
         advice = "give the files of which it was made, and --fix and --early as then"
         line = f"inrc2pb-roster: {self.model} is not the model of this week: {advice}"
         self.assert_fault(run("roster", "names", self.model, *WEEK_OPTIONS), line)
-        line = f"inrc2pb-roster: {SCENARIO} is read, so the list of names cannot be written to it: choose another file"
+        line = (
+            f"inrc2pb-roster: {SCENARIO} is read, so the list of names cannot be written to it:"
+            " choose another file"
+        )
         self.assert_fault(
             run("roster", "names", self.model, *WEEK_OPTIONS, "--out", SCENARIO), line
         )

@@ -1,4 +1,5 @@
-"""Tests of training and leave, which concern the days beside them: what is counted, and what rows may not have."""
+"""Tests of training and leave, which concern the days beside them: what is counted, and what rows
+may not have."""
 
 import random
 import unittest
@@ -13,12 +14,14 @@ from inrc2pb.rows.pricing import Crews, Pricing
 from inrc2pb.week.dates import times_of
 
 WARD = files.read_scenario(SCENARIO)
-PAST, DATA = files.read_history(HISTORY, WARD), files.read_week(WEEK, WARD)
+PAST = files.read_history(HISTORY, WARD)
+DATA = files.read_week(WEEK, WARD)
 NIGHTS = frozenset(["Night"])
 
 
 def shifts(nurse, row):
-    """The shift types of a nurse's days, of a row with the first letters of shift types, and of other signs for days off."""
+    """The shift types of a nurse's days, of a row with the first letters of shift types, and of
+    other signs for days off."""
     types = {name[0]: name for name in WARD.shift_types}
     return {(nurse, day): types[sign] for day, sign in enumerate(row) if sign in types}
 
@@ -34,7 +37,8 @@ def away_of(nurse, row, **fields):
 
 class Counting(unittest.TestCase):
     def test_rows_with_training(self):
-        # Grace was off on Sunday, and Amara has worked two days before Monday. Both may work five days in a row.
+        # Grace was off on Sunday, and Amara has worked two days before Monday. Both may work five
+        # days in a row.
         for nurse, row, days, number in (
             ("Grace", "DDDTDD.", range(6), 6),
             ("Grace", "DDDTD.D", None, 0),
@@ -84,7 +88,9 @@ class Counting(unittest.TestCase):
 
 class Rows(unittest.TestCase):
     def test_rows_cost_more_if_and_only_if_the_days_beside_are_not_kept(self):
-        chance, types, seen = random.Random(11), list(WARD.shift_types), {False: 0, True: 0}
+        chance = random.Random(11)
+        types = list(WARD.shift_types)
+        seen = {False: 0, True: 0}
         for _ in range(25):
             nurse = chance.choice(["Grace", "Amara", "Dilek", "Ewa"])
             signs = [chance.choice("......TTF") for _ in range(14)]
@@ -118,7 +124,8 @@ class Rows(unittest.TestCase):
         self.assertGreater(min(seen.values()), 50)
 
     def test_a_row_that_differs_from_an_older_one_costs_a_call(self):
-        chance, plain = random.Random(5), Plan.of(WARD, PAST, [DATA, DATA])
+        chance = random.Random(5)
+        plain = Plan.of(WARD, PAST, [DATA, DATA])
         older = {
             nurse: bytes(chance.choice((0, 0, 1, 2, 3, ANY_CHOICE)) for _ in range(14))
             for nurse in WARD.nurses

@@ -18,7 +18,12 @@ from ward import (
     run,
 )
 
-from inrc2pb.judging.demand import asked_shifts, demand_warnings, supplied_shifts
+from inrc2pb.judging.demand import (
+    asked_shifts,
+    demand_warnings,
+    supplied_shifts,
+    supply_warnings,
+)
 from inrc2pb.judging.leave import Counted, PartContract, part_contract
 from inrc2pb.search import why_none
 from inrc2pb.shown.ward_sentences import (
@@ -44,7 +49,8 @@ from inrc2pb.week.records import (
     WeekData,
 )
 
-WARD, DATA = files.read_scenario(SCENARIO), files.read_week(WEEK, files.read_scenario(SCENARIO))
+WARD = files.read_scenario(SCENARIO)
+DATA = files.read_week(WEEK, files.read_scenario(SCENARIO))
 PAST = files.read_history(HISTORY, WARD)
 EIGHT = ROOT / "examples" / "eight"
 
@@ -75,13 +81,15 @@ class Demand(unittest.TestCase):
     def test_nurses_who_are_needed_at_once(self):
         # Three of the seven nurses have Charge.
         wanted = [
-            "Tue: 4 with Charge needed at once (Day 2, Night 2), and 3 have it: no roster can meet it: lower minimum numbers by 1, or give more nurses the skill"
+            "Tue: 4 with Charge needed at once (Day 2, Night 2), and 3 have it: no roster can meet"
+            " it: lower minimum numbers by 1, or give more nurses the skill"
         ]
         self.assertEqual(
             list(demand_warnings(WARD, PAST, needing(Day_Charge=2, Night_Charge=2))), wanted
         )
         wanted = [
-            "Tue: Day Charge, Day Nurse, Late Nurse and Night Nurse need 8 nurses at once, and 7 could do it: no roster can meet it: lower minimum numbers by 1 in all"
+            "Tue: Day Charge, Day Nurse, Late Nurse and Night Nurse need 8 nurses at once, and 7"
+            " could do it: no roster can meet it: lower minimum numbers by 1 in all"
         ]
         self.assertEqual(
             list(
@@ -100,7 +108,9 @@ class Demand(unittest.TestCase):
             ),
         )
         wanted = [
-            "Tue: 1 with Charge needed at once (Day 1), and 0 of the 3 who have it could do it: no roster that keeps every absence can meet it: lower minimum numbers by 1, or give more nurses the skill, or shorten an absence"
+            "Tue: 1 with Charge needed at once (Day 1), and 0 of the 3 who have it could do it: no"
+            " roster that keeps every absence can meet it: lower minimum numbers by 1, or give more"
+            " nurses the skill, or shorten an absence"
         ]
         self.assertEqual(list(demand_warnings(WARD, PAST, away)), wanted)
 
@@ -128,21 +138,25 @@ class Demand(unittest.TestCase):
             )
 
     def test_shifts_that_are_asked_for_and_supplied(self):
-        # Day Charge 7, Day Nurse 5 and 10+2, Late 7, Night 7; five Full (17,21) and two Half (8,11) in four weeks.
+        # Day Charge 7, Day Nurse 5 and 10+2, Late 7, Night 7; five Full (17,21) and two Half (8,11)
+        # in four weeks.
         self.assertEqual((asked_shifts(DATA), supplied_shifts(WARD, PAST)), ((26, 33), (25, 32)))
 
     def test_days_away_that_count_as_work_are_missing_in_their_week(self):
-        # The contracts have 101 to 127 shifts. Amara has leave on five days of the second week, which count as five of her 17 to 21 shifts.
+        # The contracts have 101 to 127 shifts. Amara has leave on five days of the second week,
+        # which count as five of her 17 to 21 shifts.
         paid = [{}, {"Amara": Fraction(5)}, {}, {}]
         past = replace(
             PAST, nurses={**PAST.nurses, "Amara": replace(PAST.nurses["Amara"], assignments=5)}
         )
-        # 101 / 4 and 127 / 4 in the first week. In the second one she owes nothing, and 21 / 4 - 5 are left for her.
+        # 101 / 4 and 127 / 4 in the first week. In the second one she owes nothing, and 21 / 4 - 5
+        # are left for her.
         self.assertEqual(
             (supplied_shifts(WARD, past, paid), supplied_shifts(WARD, None, paid[1:])),
             ((25, 32), (21, 27)),
         )
-        # All nurses have leave in the whole second week: five quarters are left for the five with full contracts.
+        # All nurses have leave in the whole second week: five quarters are left for the five with
+        # full contracts.
         paid[1] = dict.fromkeys(WARD.nurses, Fraction(5))
         self.assertEqual(supplied_shifts(WARD, None, paid[1:]), (0, 2))
 
@@ -157,21 +171,57 @@ class Demand(unittest.TestCase):
             },
         )
         self.assertIn(
-            "it asks for at least 42 shifts, and the contracts supply at most 32 a week: if all weeks ask for so many, each shift above costs points",
+            (
+                "it asks for at least 42 shifts, and the contracts supply at most 32 a week: if all"
+                " weeks ask for so many, each shift above costs points"
+            ),
             list(demand_warnings(WARD, PAST, many)),
         )
+
+    def test_the_weeks_to_the_end_of_the_period(self):
+        # Five contracts have at most 21 shifts, two at most 11; each week asks for 26, at best 33.
+        (said,) = supply_warnings(WARD, PAST, [DATA] * 4)
+        self.assertTrue(
+            said.startswith(
+                "the best numbers ask for 132 shifts, the minimum numbers for 104, and the contracts"
+                " supply at most 127 beside absences: "
+            ),
+            said,
+        )
+        many = replace(DATA, requirements={place: Requirement(3, 3) for place in DATA.requirements})
+        self.assertEqual(list(supply_warnings(WARD, PAST, [many] * 3)), [])
+        last = replace(PAST, week=1)
+        self.assertEqual(len(list(supply_warnings(WARD, last, [many] * 3))), 1)
 
 
 class Telling(HelperTest):
     def test_a_ward_in_sentences(self):
-        full = "17 to 21 shifts in 4 weeks; 3 to 5 days of work in a row, 2 to 3 days off; at most 2 weekends with work, on both days or none"
-        half = "8 to 11 shifts in 4 weeks; 2 to 3 days of work in a row, 2 to 5 days off; at most 2 weekends with work"
+        full = (
+            "17 to 21 shifts in 4 weeks; 3 to 5 days of work in a row, 2 to 3 days off; at most 2"
+            " weekends with work, on both days or none"
+        )
+        half = (
+            "8 to 11 shifts in 4 weeks; 2 to 3 days of work in a row, 2 to 5 days off; at most 2"
+            " weekends with work"
+        )
         self.assertEqual([ward_sentence(WARD), *scenario_sentences(WARD)], [
             "ward: 7 nurses, 4 weeks in a period.", "Day: 2 to 5 days in a row.", "Late: 2 to 4 days in a row. After Late, the next day no Day.",
             "Night: 2 to 4 days in a row. After Night, the next day no Day and no Late.",
             f"Contract Full (Amara, Bruno, Chen, Dilek and Grace): {full}.", f"Contract Half (Ewa and Finn): {half}.",
             "Charge: Amara, Bruno and Ewa.", "Nurse: Amara, Bruno, Chen, Dilek, Ewa, Finn and Grace.",
         ])  # fmt: skip
+
+    def test_a_maximum_of_weekends_that_no_period_reaches_is_none(self):
+        for most, says in (
+            (3, "at most 3 weekends with work"),
+            (4, "any number of weekends with work"),
+        ):
+            contracts = {
+                name: replace(contract, max_weekends=most)
+                for name, contract in WARD.contracts.items()
+            }
+            said = list(scenario_sentences(replace(WARD, contracts=contracts)))
+            self.assertEqual(sum(f"; {says}" in line for line in said), 2, said)
 
     def test_equal_contracts_and_parts_of_them(self):
         full = WARD.contracts["Full"]
@@ -189,7 +239,8 @@ class Telling(HelperTest):
         found = list(scenario_sentences(ward))[3:6]
         self.assertTrue(
             found[0].startswith(
-                "Contracts Full (Amara, Chen, Dilek, Ewa, Finn and Grace) and Same (Bruno): 17 to 21 shifts "
+                "Contracts Full (Amara, Chen, Dilek, Ewa, Finn and Grace) and Same (Bruno): 17 to"
+                " 21 shifts "
             )
         )
         self.assertEqual(found[1:], [
@@ -233,6 +284,10 @@ class Telling(HelperTest):
                 for name in ("Amara", "Chen")
             },
         }
+        begins = replace(PAST.nurses["Bruno"], days_off=0)
+        found = list(history_sentences(replace(PAST, nurses={**PAST.nurses, "Bruno": begins})))
+        self.assertNotIn("Bruno", found[0])
+        self.assertEqual(found[1], "Nothing is known of the days before Monday: Bruno.")
         nurses["Ewa"] = replace(PAST.nurses["Ewa"], assignments=2)
         nurses["Grace"] = replace(PAST.nurses["Grace"], assignments=6, weekends=1)
         counted = Counted(shifts={"Ewa": 2, "Grace": 1}, weekends={"Grace": 1})
@@ -265,7 +320,8 @@ class Telling(HelperTest):
         ])  # fmt: skip
 
     def test_weeks_in_sentences(self):
-        # One week of three needs nobody on Friday, and one has no row for nights; a nurse is away over Sunday.
+        # One week of three needs nobody on Friday, and one has no row for nights; a nurse is away
+        # over Sunday.
         fewer = replace(
             DATA, requirements={**DATA.requirements, Place(4, "Late", "Nurse"): Requirement(0, 0)}
         )
@@ -307,10 +363,8 @@ class Telling(HelperTest):
     def test_check_tells(self):
         status, printed, said = run("roster", "check", *WEEK_OPTIONS, "--tell")
         self.assertEqual((status, said), (0, ""))
-        after, last = (
-            "Late: 2 to 4 days in a row. After Late, the next day no Day.",
-            "Night on Sunday: Dilek for 2 days in a row, with 2 days of work.",
-        )
+        after = "Late: 2 to 4 days in a row. After Late, the next day no Day."
+        last = "Night on Sunday: Dilek for 2 days in a row, with 2 days of work."
         for line in (
             after,
             last,
@@ -337,7 +391,10 @@ class WhyNone(HelperTest):
             (status, lines[0]),
             (
                 0,
-                "No roster meets all minimum numbers. Lower these by 1 in all; no roster can do with less:",
+                (
+                    "No roster meets all minimum numbers. Lower these by 1 in all; no roster can do"
+                    " with less:"
+                ),
             ),
         )
         self.assertRegex(lines[1], "^(Wed|Thu) (Early|Late|Night) HeadNurse: lower 1 to 0$")
@@ -352,7 +409,10 @@ class WhyNone(HelperTest):
     def test_a_skill_that_is_away(self):
         away = self.away("Amara=Fri", "Bruno=Fri", "Ewa=Fri")
         _, printed, _ = run("roster", "check", *WEEK_OPTIONS[:4], "--week", away, "--why-none")
-        said = "No roster meets all minimum numbers, and keeps every absence. Lower these by 1 in all; no roster can do with less:"
+        said = (
+            "No roster meets all minimum numbers, and keeps every absence. Lower these by 1 in all;"
+            " no roster can do with less:"
+        )
         rows = [
             "Fri Day Charge: lower 1 to 0",
             "    Amara is away",

@@ -74,7 +74,10 @@ class Facts(HelperTest):
                 "NOT EVEN\n",
                 "NOT EVEN\nNOT EVEN\n",
                 11,
-                "'NOT' comes after the last fact: remove it, or correct the number of lines announced",
+                (
+                    "'NOT' comes after the last fact: remove it, or correct the number of lines"
+                    " announced"
+                ),
             ),
         ):
             with self.subTest(new), self.assertRaises(FileFault) as found:
@@ -84,7 +87,8 @@ class Facts(HelperTest):
             )
 
     def test_the_facts_of_some_weeks_of_a_period(self):
-        # The weeks 1 and 2, counted from 0, are the weeks 2 and 3 of the file: the first of them has a row.
+        # The weeks 1 and 2, counted from 0, are the weeks 2 and 3 of the file: the first of them
+        # has a row.
         self.assertEqual(
             of_weeks(CLAIMS, 1, 2),
             (CLAIMS[0]._replace(fact=Choice(1, "Chen", 4, None)), *CLAIMS[3:]),

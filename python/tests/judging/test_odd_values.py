@@ -18,6 +18,7 @@ WARNINGS = [
     (HISTORY, "Amara 0 0 Day 2 2 0", "Amara 0 0 Day 0 2 0", "--his", "Amara worked on Sunday (Day), but has 0 days in a row on this shift type: correct one of the two"),
     (HISTORY, "Amara 0 0 Day 2 2 0", "Amara 0 0 Day 3 2 0", "--his", "Amara has 3 days in a row on Day, and only 2 with work: correct one of the two"),
     (HISTORY, "Bruno 0 0", "Bruno 18 0", "--his", "Bruno has 18 assignments, and 0 weeks of the period are over (leave with credit?)"),
+    (HISTORY, "Bruno 0 0", "Bruno 17 0", "--his", None),
     (HISTORY, "Bruno 0 0", "Bruno 0 1", "--his", "Bruno has 1 weekend, and 0 weeks of the period are over"),
     (HISTORY, "Bruno 0 0 None 0 0 2", "Bruno 0 0 None 0 0 0", "--his", None),
     (WARD / "history-1.txt", "Amara 5 1 Day 2 2 0", "Amara 5 1 Day 2 6 0", "--his", "Amara has 6 working days in a row, and 5 assignments"),
@@ -38,7 +39,10 @@ class Warnings(HelperTest):
     def test_a_name_with_a_control_character(self):
         ward = self.changed(SCENARIO, "Chen Full", "Chen\x1b[31m Full")
         status, printed, said = run("roster", "check", "--sce", ward)
-        line = f"{ward}: warning: the name Chen\\x1b[31m has a sign that no table shows: remove it in each file of the ward\n"
+        line = (
+            f"{ward}: warning: the name Chen\\x1b[31m has a sign that no table shows: remove it in"
+            " each file of the ward\n"
+        )
         self.assertEqual((status, printed, said), (0, f"{line}No mistake found.\n", ""))
 
     def test_a_ward_that_is_not_utf_8(self):
@@ -70,7 +74,8 @@ class Warnings(HelperTest):
                 )
 
     def test_a_shift_type_that_is_closed(self):
-        text, zeros = WEEK.read_text(), " ".join(["(0,0)"] * 7)
+        text = WEEK.read_text()
+        zeros = " ".join(["(0,0)"] * 7)
         closed = "".join(line for line in text.splitlines(True) if not line.startswith("Late "))
         week = self.folder / "week.txt"
         for rows, warned in (

@@ -1,4 +1,5 @@
-"""A headless Chromium that uses the page of a ward's folder, by mouse or by keyboard, as wide as a screen or as a telephone."""
+"""A headless Chromium that uses the page of a ward's folder, by mouse or by keyboard, as wide as a
+screen or as a telephone."""
 
 import re
 import shutil
@@ -19,15 +20,19 @@ except ImportError:
     webdriver = None
 
 HAS_BROWSER = webdriver is not None and all(map(shutil.which, ("chromium", "chromedriver")))
-SCREEN, TELEPHONE = 1280, 390
-# The most seconds until a page shows what it should, and the most stops of the key Tab to what is looked for.
-_PATIENCE, _MOST_STOPS = ENOUGH, 60
+SCREEN = 1280
+TELEPHONE = 390
+# The most seconds until a page shows what it should, and the most stops of the key Tab to what is
+# looked for.
+_PATIENCE = ENOUGH
+_MOST_STOPS = 60
 
 
 class BrowserTest(FolderTest):
     """A ward's folder that `inrc2pb-plan` serves, and a browser that shows its page."""
 
-    width, by_keyboard = SCREEN, False
+    width = SCREEN
+    by_keyboard = False
 
     def setUp(self):
         super().setUp()
@@ -55,7 +60,8 @@ class BrowserTest(FolderTest):
         self.addCleanup(self.browser.quit)
         size = {"width": self.width, "height": 900, "deviceScaleFactor": 1, "mobile": False}
         self.browser.execute_cdp_cmd("Emulation.setDeviceMetricsOverride", size)
-        self.stops, self.clicks = 0, 0
+        self.stops = 0
+        self.clicks = 0
 
     def _end(self):
         self.served.terminate()
@@ -72,7 +78,8 @@ class BrowserTest(FolderTest):
         return self.browser.find_element(By.TAG_NAME, "body").text
 
     def waits_for(self, says):
-        """Waits until the page says this, and no verb runs. A page that loads itself again is another one at any time."""
+        """Waits until the page says this, and no verb runs. A page that loads itself again is
+        another one at any time."""
         limit = time.monotonic() + _PATIENCE
         shown = ""
         while time.monotonic() < limit:
@@ -128,7 +135,8 @@ class BrowserTest(FolderTest):
         self.presses(f"//summary[.='{text}']")
 
     def says_yes(self, question, says):
-        """Answers the only question by its only Yes, and waits until the page says what was done."""
+        """Answers the only question by its only Yes, and waits until the page says what was
+        done."""
         self.waits_for(question)
         buttons = [
             one for one in self.browser.find_elements(By.TAG_NAME, "button") if "Yes" in one.text
@@ -143,7 +151,8 @@ class BrowserTest(FolderTest):
         return self.waits_for(says)
 
     def opens_cell(self, nurse, day):
-        """Opens a nurse's day: a click on its cell, or by keyboard her name, and then day after day."""
+        """Opens a nurse's day: a click on its cell, or by keyboard her name, and then day after
+        day."""
         if not self.by_keyboard:
             cells = self.browser.find_elements(By.XPATH, f"//tr[th//a[.='{nurse}']]/td/a")
             self.clicks += 1

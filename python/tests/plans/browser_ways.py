@@ -1,4 +1,5 @@
-"""Long ways through the local page in a real browser: what a planner does in a period, by mouse and by keyboard, on a screen and on a telephone.
+"""Long ways through the local page in a real browser: what a planner does in a period, by mouse and
+by keyboard, on a screen and on a telephone.
 
     make browser
 """
@@ -35,7 +36,8 @@ class Mouse(BrowserTest):
         self.says_yes("this takes back: over, ", "undone: over, ")
         self.assertEqual(self.plans(), ["plan", "page", "set", "ill", "swap"])
         print(
-            f"{type(self).__name__}: {self.clicks} clicks or keys Enter, {self.stops} stops of the key Tab"
+            f"{type(self).__name__}: {self.clicks} clicks or keys Enter, {self.stops} stops of the"
+            " key Tab"
         )
 
     def sets(self):
@@ -43,7 +45,7 @@ class Mouse(BrowserTest):
         nurse, day = next(
             key
             for key, cell in sorted(self.cells().items())
-            if self.is_offered(*key, "off, promised")
+            if self.is_offered(*key, "  off, promised")
         )
         self.opens_cell(nurse, day)
         self.button("off, promised")

@@ -9,16 +9,15 @@ from urllib.parse import urlencode, urlsplit
 from test_plans import FolderTest
 from ward import ENOUGH
 
-from inrc2pb.commands.plan import read_sheet
-from inrc2pb.plans.local_jobs import Jobs
-from inrc2pb.plans.local_server import LocalServer
+from inrc2pb.page.jobs import Jobs
+from inrc2pb.page.server import LocalServer
 from inrc2pb.plans.ward_folder import WardFolder
 from inrc2pb.programs.interrupts import interrupts
 
 
 class ServedPage(FolderTest):
-    """A folder whose page is served, as `origin` if there is one. A form that a test sends has the stamp of the plan, if it has none of its
-    own."""
+    """A folder whose page is served, as `origin` if there is one. A form that a test sends has the
+    stamp of the plan, if it has none of its own."""
 
     origin = ""
 
@@ -27,7 +26,7 @@ class ServedPage(FolderTest):
         stack = contextlib.ExitStack()
         self.addCleanup(stack.close)
         signals = stack.enter_context(interrupts())
-        self.jobs = Jobs(WardFolder(self.ward), read_sheet, signals, float(ENOUGH))
+        self.jobs = Jobs(WardFolder(self.ward), signals, float(ENOUGH))
         server = LocalServer(self.jobs, "127.0.0.1", 0, self.origin)
         self.address = server.address
         self.site = urlsplit(f"http://127.0.0.1:{server.port}{urlsplit(server.address).path}")
@@ -43,9 +42,13 @@ class ServedPage(FolderTest):
         """The stamp of the plan that holds."""
         return self.jobs.folder.stamp
 
+    def plans(self):
+        """The numbers of the plans that hold, one after another."""
+        return sorted(path.name[:4] for path in (self.ward / "plans").glob("0*"))
+
     def asks(self, method="GET", path=None, form=None, **headers):
-        """The status and the text of an answer. Without a path the browser loads its page again; a form leads it to another one, which is
-        the answer if it is a question."""
+        """The status and the text of an answer. Without a path the browser loads its page again; a
+        form leads it to another one, which is the answer if it is a question."""
         path = path or (self.shown if method == "GET" else self.site.path)
         form = (
             f"{form}&stamp={self.stamp}"
@@ -64,7 +67,8 @@ class ServedPage(FolderTest):
         return led if "Yes, write it" in led[1] else (answer.status, text)
 
     def sends(self, **fields):
-        """Sends a form, and says yes if it writes, waits for the end of its verb, and returns the page."""
+        """Sends a form, and says yes if it writes, waits for the end of its verb, and returns the
+        page."""
         form = urlencode(
             {name.replace("_", " "): value for name, value in {**fields, "sure": "yes"}.items()}
         )

@@ -7,10 +7,11 @@ from served_page import ServedPage
 from test_plans import FolderTest
 from ward import run
 
-from inrc2pb.commands.plan import read_sheet
-from inrc2pb.plans import verbs
+from inrc2pb.sheets.ward import read_sheet
+from inrc2pb.plans import planning
 from inrc2pb.plans.searching import Found
-from inrc2pb.plans.state import DayWord, read_state, with_days, without_last, words_of
+from inrc2pb.plans.plan_files import read_state
+from inrc2pb.sheets.written_days import DayWord, with_days, without_last, words_of
 from inrc2pb.plans.ward import continued
 from inrc2pb.week.files import read_history, read_scenario
 from inrc2pb.week.records import Cell
@@ -24,17 +25,18 @@ def _without_a_search(_, old, asked):
 
 
 class BackTest(FolderTest):
-    """A ward whose verbs find plans without a search. Day 0 is Mon 30 Nov, and day 13 is Sun 13 Dec."""
+    """A ward whose verbs find plans without a search. Day 0 is Mon 30 Nov, and day 13 is Sun 13
+    Dec."""
 
     def setUp(self):
         super().setUp()
         stand_ins = {
             "_found": _without_a_search,
             "penalties": lambda _: {},
-            "without_needless_changes": lambda _, new: new,
+            "without_needless_changes": lambda _, new, ends: new,
         }
         for name, stand_in in stand_ins.items():
-            patched = mock.patch.object(verbs, name, stand_in)
+            patched = mock.patch.object(planning, name, stand_in)
             patched.start()
             self.addCleanup(patched.stop)
 
@@ -77,7 +79,7 @@ class Back(BackTest):
                 "Chen stays away: leave, Mon 7 Dec to Fri 11 Dec",
             ],
         )
-        self.assertIn(", at most 30 s; ", lines[2])
+        self.assertIn(", at most 30 seconds in all; ", lines[2])
         self.assertEqual(self.away(), {**_days(2, 4, "ill"), **_days(7, 11, "leave")})
 
     def test_an_unpaid_day_after_an_illness_stays(self):
@@ -186,14 +188,14 @@ class Reasons(BackTest):
     def test_a_change_from_leave_has_its_word(self):
         self.begin_with("", "", "", "", "", "leave")
         # The plan keeps its shifts.
-        with mock.patch.object(verbs, "more_even", lambda plan, first, seconds: plan):
+        with mock.patch.object(planning, "more_even", lambda plan, *_: plan):
             self.lines("plan", "--free")
         self.lines("page")
 
         def works(_, old, asked):
             return Found(old.with_cells([*old.cells, Cell("Chen", 5, "Late", "Nurse")]))
 
-        with mock.patch.object(verbs, "_found", works):
+        with mock.patch.object(planning, "_found", works):
             lines = self.lines("back", "Chen", "Sat")
         self.assertIn("Chen, Sat 5 Dec: Late Nurse instead of leave", lines)
         self.assertEqual(self.changes(), [["Chen", "Sat 5 Dec", "leave", "Late Nurse"]])
@@ -210,7 +212,8 @@ class Reasons(BackTest):
 
 
 class Over(BackTest):
-    """A week that ends with absences. In both weeks Bruno is planned for the first five days, and Chen for the days from Wednesday on."""
+    """A week that ends with absences. In both weeks Bruno is planned for the first five days, and
+    Chen for the days from Wednesday on."""
 
     def own_cells(self, nurse):
         return {day: shift for (name, day), shift in self.cells().items() if name == nurse}
@@ -266,7 +269,8 @@ class Over(BackTest):
         self.assertEqual(self.shifts_in_history("Chen"), 6)
 
     def test_the_share_of_days_that_count_as_work(self):
-        # A full contract has a shift a day from Monday to Friday. Training counts as one on each day, and an illness the shift of its day.
+        # A full contract has a shift a day from Monday to Friday. Training counts as one on each
+        # day, and an illness the shift of its day.
         for words, shifts in (
             ("", 5),
             ("Bruno Mon off", 4),
@@ -288,7 +292,8 @@ class Over(BackTest):
     def test_the_totals_of_the_period(self):
         self.begin_with()
         self.lines("over", "Bruno", "Mon", "ill")
-        # The shifts in all, those of them for days away, the limits of the contract, and the shifts left or missing.
+        # The shifts in all, those of them for days away, the limits of the contract, and the shifts
+        # left or missing.
         self.assertEqual(
             self.rows_of("Bruno", "worked-2026-11-30.html")[1][:4],
             ["5", "1", "17 to 22", "12 to 17 left"],
@@ -301,7 +306,10 @@ class Over(BackTest):
         for word in ("unpaid", "away"):
             with self.subTest(word):
                 self.begin_with()
-                part = "contract Full counts in proportion, at least 15 shifts in place of at least 17."
+                part = (
+                    "contract Full counts in proportion, at least 15 shifts in place of at"
+                    " least 17."
+                )
                 self.assertIn(
                     f"Bruno is away or unpaid on 1 of 14 days: {part}",
                     self.lines("over", "Bruno", "Mon", word),
@@ -352,7 +360,8 @@ class Over(BackTest):
     def test_undo_takes_the_absence_back_with_the_week(self):
         self.begin_with()
         self.lines("ill", "Chen", "Fri")
-        before, written = self.cells(), read_state(self.last()).absences
+        before = self.cells()
+        written = read_state(self.last()).absences
         self.lines("over", "Bruno", "Mon", "ill")
         self.assertEqual(
             read_state(self.last()).absences, (*written, DayWord("Bruno", 0, "ill", 1))
@@ -372,8 +381,7 @@ class Over(BackTest):
         self.assertIn("week 2 (calendar week 50) is over, and with it the period is over", lines)
         text = (self.ward / "worked-2026-11-30.html").read_text()
         self.assertEqual(text.count(">ill<"), 2)
-        # The next period begins without the absences of this one.
-        self.assertEqual(read_state(self.last()).absences, ())
+        self.assertTrue(read_state(self.last()).is_over)
         self.assertEqual(self.lines("undo")[0][:26], "undone: over Bruno Tue ill")
         self.assertEqual(read_state(self.last()).absences, (DayWord("Bruno", 0, "ill", 1),))
 
@@ -387,7 +395,8 @@ class Over(BackTest):
 
 class Written(FolderTest):
     def test_what_verbs_wrote_below_an_illness_stays(self):
-        leave, ill = with_days((), "Chen", [1, 2], "leave"), DayWord("Chen", 2, "ill")
+        leave = with_days((), "Chen", [1, 2], "leave")
+        ill = DayWord("Chen", 2, "ill")
         both = with_days(with_days(leave, "Chen", [2], "ill"), "Chen", [2], "ill")
         self.assertEqual(
             (both, words_of(both, "Chen"), words_of(both, "Grace")),
@@ -412,13 +421,19 @@ class Asked(ServedPage):
         self.write_plan()
         question = self.asks("POST", form="verb=over&corrections=Bruno+Mon+ill,+Chen+Tue+Late")[1]
         self.assertIn(
-            "<h2>The week is over: Mon 30 Nov to Sun 6 Dec, corrections Bruno Mon ill, Chen Tue Late?</h2>",
+            (
+                "<h2>The week is over: Mon 30 Nov to Sun 6 Dec, corrections Bruno Mon ill, Chen Tue"
+                " Late?</h2>"
+            ),
             question,
         )
         self.assertEqual(len(list((self.ward / "plans").glob("0*"))), 1)
         page = self.sends(verb="over", corrections="Bruno Mon ill, Chen Tue Late")
         self.assertIn(
-            "Bruno: ill, Mon 30 Nov\nBruno, Mon 30 Nov: ill instead of Day Nurse\nChen, Tue 1 Dec: Late Nurse instead of off\n",
+            (
+                "Bruno: ill, Mon 30 Nov\nBruno, Mon 30 Nov: ill instead of Day Nurse\nChen, Tue 1"
+                " Dec: Late Nurse instead of off\n"
+            ),
             page,
         )
         self.assertIn("week 1 (calendar week 49) is over: the plan goes on from Mon 7 Dec", page)

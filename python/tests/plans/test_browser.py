@@ -1,4 +1,5 @@
-"""A short way through the local page in a real browser, for the gate. `make browser` takes longer ones."""
+"""A short way through the local page in a real browser, for the gate. `make browser` takes longer
+ones."""
 
 import unittest
 

@@ -1,4 +1,5 @@
-"""Tests of maxima of shifts that hold, and that days away make a plan exceed: who is named, what helps, and what a plan takes away."""
+"""Tests of maxima of shifts that hold, and that days away make a plan exceed: who is named, what
+helps, and what a plan takes away."""
 
 import datetime
 import shutil
@@ -9,21 +10,27 @@ from functools import cached_property
 from test_kept_plans import KeptTest
 from ward import HAS_CBC, run
 
-from inrc2pb.commands.plan import read_sheet
-from inrc2pb.plans.events import absence, set_day
+from inrc2pb.sheets.ward import read_sheet
+from inrc2pb.plans.verbs.away import absence
+from inrc2pb.plans.verbs.set_day import set_day
 from inrc2pb.plans.facts import newly_exceeded, unkept
-from inrc2pb.plans.outcome import Event
+from inrc2pb.plans.verb import Event
 from inrc2pb.plans.sentences import days_away_lines, exceeded_lines, unkept_lines
-from inrc2pb.plans.state import NurseDay, lost_shifts, read_record, read_state, record_text
-from inrc2pb.plans.swap_sentences import fault_text
+from inrc2pb.plans.state import NurseDay
+from inrc2pb.plans.plan_files import read_record, read_state, record_text
+from inrc2pb.sheets.written_days import lost_shifts
+from inrc2pb.plans.offers import fault_text
 from inrc2pb.plans.swaps import Swap, Swaps
-from inrc2pb.plans.ward import continued, limits_of, plan_of
+from inrc2pb.plans.ward import continued, plan_of
+from inrc2pb.plans.limits import limits_of
 
 MOMENT = datetime.datetime(2026, 11, 29, 12, 0)
-# In the stored plan each nurse with a full contract has ten shifts in 14 days, and Grace hers from Monday to Friday.
+# In the stored plan each nurse with a full contract has ten shifts in 14 days, and Grace hers from
+# Monday to Friday.
 HOLDS = "in the period, and this limit holds"
 NEEDS = "if the needs allow it; or allow her more"
-# Days of a weekend with nothing beside them count as those from Monday to Friday: two as two of ten shifts in ten such days.
+# Days of a weekend with nothing beside them count as those from Monday to Friday: two as two of ten
+# shifts in ten such days.
 TWELVE = f"Grace has 12 shifts, 2 of them for days away, of at most 10 {HOLDS}"
 # Her last two shifts are on Thursday and Friday.
 TAKES_TWO = f"plan from Thu 10 Dec on, or from an earlier day, takes 2 away {NEEDS}"
@@ -69,13 +76,15 @@ class Lines(ExceededTest):
         for most in ("10", "12!"):
             self.limits("8", most)
             self.assertEqual(list(exceeded_lines(self.read())), [], most)
-        # Two of her ten shifts are on days on which she is ill now, so the next plan has eight of them.
+        # Two of her ten shifts are on days on which she is ill now, so the next plan has eight of
+        # them.
         self.limits("8", "10!")
         self.days("ill", "ill")
         self.assertEqual(list(exceeded_lines(self.read())), [])
 
     def test_shifts_that_no_plan_takes_away(self):
-        # Grace worked five shifts in week 1, and has none in week 2. Two days count as 2 * 5 / 10 shifts.
+        # Grace worked five shifts in week 1, and has none in week 2. Two days count as 2 * 5 / 10
+        # shifts.
         self.limits("4", "5!")
         self.days(*[""] * 5, "ill", "ill")
         cells = [cell for cell in self.plan.cells if cell.nurse != "Grace" or cell.day < 7]
@@ -98,7 +107,8 @@ class Lines(ExceededTest):
         self.assertEqual(list(days_away_lines(self.read(cells))), [f"{says}: {over}"])
 
     def test_who_leaves_after_training(self):
-        # She is present on 7 of 14 days, so her ten shifts at most become five; her training counts as two shifts.
+        # She is present on 7 of 14 days, so her ten shifts at most become five; her training counts
+        # as two shifts.
         self.limits("7", "10!")
         self.days(*[""] * 5, "training", "training", *["away"] * 7)
         cells = [cell for cell in self.plan.cells if cell.nurse != "Grace" or cell.day < 7]
@@ -126,7 +136,10 @@ class Lines(ExceededTest):
             ("1 (calendar week 49)", "Mon 30 Nov to Fri 4 Dec"),
             ("2 (calendar week 50)", "Mon 7 Dec to Fri 11 Dec"),
         )
-        run_of = "week {} exceeds a limit that holds: Grace has 5 days of work in a row, {}, of at most 4: plan again, or allow her more"
+        run_of = (
+            "week {} exceeds a limit that holds: Grace has 5 days of work in a row, {}, of at most"
+            " 4: plan again, or allow her more"
+        )
         self.assertEqual(says, [run_of.format(*row) for row in rows])
 
     def test_limits_do_not_depend_on_who_looked_first(self):
@@ -135,7 +148,8 @@ class Lines(ExceededTest):
         cells = {(one.nurse, one.day): one for one in self.plan.cells}
         moved = [one._replace(nurse="Grace") if one.nurse in ("Amara", "Bruno") and ("Grace", one.day) not in cells else one
                  for one in self.plan.cells]  # fmt: skip
-        plain, looked = self.read(), self.read()
+        plain = self.read()
+        looked = self.read()
         for name in (*vars(type(plain)), "data"):
             if isinstance(vars(type(plain)).get(name), (property, cached_property)):
                 getattr(looked, name)
@@ -144,13 +158,15 @@ class Lines(ExceededTest):
             lambda plan: plan.with_cells(moved),
             lambda plan: plan_of(plan.ward, plan.state.with_open(moved)),
         ):
-            one, two = other(plain), other(looked)
+            one = other(plain)
+            two = other(looked)
             self.assertEqual((one.limits, one.data), (two.limits, two.data))
         # A changed plan is judged by the limits of the plan that it was made from.
         self.assertEqual(looked.with_cells(moved).limits, plain.limits)
 
     def test_what_a_search_keeps(self):
-        # A plan from a day on takes her shifts from this day on away: two of five, and none if eight are before it.
+        # A plan from a day on takes her shifts from this day on away: two of five, and none if
+        # eight are before it.
         self.days(*[""] * 5, "ill", "ill")
         for first, kept in ((0, 0), (7, 0), (10, 0), (11, 1), (12, 2)):
             plan = self.read()
@@ -171,7 +187,8 @@ class Lines(ExceededTest):
 
 
 class DaysAwayOfAWard(ExceededTest):
-    """Days away count as a ward counts them. Grace works Day from Monday to Friday in both weeks, which are ten shifts of `10!`."""
+    """Days away count as a ward counts them. Grace works Day from Monday to Friday in both weeks,
+    which are ten shifts of `10!`."""
 
     def counted(self, *words):
         """The shifts and weekends as which her days of the spreadsheet count."""
@@ -257,7 +274,8 @@ class DaysAwayOfAWard(ExceededTest):
             self.assertEqual(self.counted(*words), found, words)
 
     def test_who_leaves_has_no_maximum_of_days_off(self):
-        # Her contract has at most three days off in a row: the weekend before she leaves and her two last days are four.
+        # Her contract has at most three days off in a row: the weekend before she leaves and her
+        # two last days are four.
         for words, free in (
             ([""] * 12 + ["away", "away"], True),
             (["", "away", "away", ""], False),
@@ -270,9 +288,13 @@ class DaysAwayOfAWard(ExceededTest):
 
 
 class SwapsBesideTraining(ExceededTest):
-    """Full contracts have at most six days of work in a row. Grace works Day from Monday to Friday in both weeks."""
+    """Full contracts have at most six days of work in a row. Grace works Day from Monday to Friday
+    in both weeks."""
 
-    LONG = "Grace has 12 days in a row with work or training, Mon 30 Nov to Fri 11 Dec, and her contract at most 6 with work"
+    LONG = (
+        "Grace has 12 days in a row with work or training, Mon 30 Nov to Fri 11 Dec, and her"
+        " contract at most 6 with work"
+    )
     NIGHT = "Grace works Night on Sat 5 Dec, and has leave on Sun 6 Dec"
 
     def setUp(self):
@@ -281,16 +303,18 @@ class SwapsBesideTraining(ExceededTest):
         self.write()
 
     def judged(self, nurse, day, *words):
-        """The faults of a swap in which Grace takes the nurse's shift of this day, and whether it is on offer, if the spreadsheet has these
-        words for her."""
+        """The faults of a swap in which Grace takes the nurse's shift of this day, and whether it
+        is on offer, if the spreadsheet has these words for her."""
         self.days(*words)
-        swaps, swap = Swaps(self.read()), Swap(nurse, "Grace", (day,))
+        swaps = Swaps(self.read())
+        swap = Swap(nurse, "Grace", (day,))
         return [fault_text(swaps.plan, fault) for fault in swaps.faults(swap)], swap in [
             offer.swap for offer in swaps.offers(nurse, day)
         ]
 
     def test_too_many_days_in_a_row_with_training(self):
-        # With Sunday she works eleven days, in rows of five and of six, and with training on Saturday twelve in a row.
+        # With Sunday she works eleven days, in rows of five and of six, and with training on
+        # Saturday twelve in a row.
         self.assertEqual(self.judged("Dilek", 6), ([], True))
         self.assertEqual(self.judged("Dilek", 6, *[""] * 5, "training"), ([self.LONG], False))
         # Days of leave are no work.
@@ -303,7 +327,8 @@ class SwapsBesideTraining(ExceededTest):
         self.assertEqual(self.judged("Chen", 5, *[""] * 6, "ill"), ([], True))
 
     def test_a_swap_that_makes_nothing_worse(self):
-        # Her first row is too long before and after a sixth shift in the second week, which only costs points.
+        # Her first row is too long before and after a sixth shift in the second week, which only
+        # costs points.
         self.rows["contracts"][1][4] = "5"
         self.assertEqual(self.judged("Dilek", 12, *[""] * 5, "training"), ([], True))
 
@@ -322,7 +347,10 @@ class SwapsBesideTraining(ExceededTest):
 class Questions(ExceededTest):
     """No verb writes a plan that exceeds a maximum that holds before it has asked."""
 
-    ASKS = "nothing is written, since a maximum that holds would be exceeded: do what helps, or type it again with --do\n"
+    ASKS = (
+        "nothing is written, since a maximum that holds would be exceeded: do what helps, or type"
+        " it again with --do\n"
+    )
 
     def asks(self, *words):
         """The lines of a verb that asks and writes nothing."""
@@ -374,7 +402,7 @@ class Questions(ExceededTest):
         before = self.texts()
         for words in (
             ("swap", "Dilek", "2026-12-06", "Grace", "--do"),
-            ("set", "Grace", "2026-12-06", "Day", "--do"),
+            ("set", "Grace", "2026-12-06", "Day", "--do", "--time", "0"),
         ):
             status, printed, _ = run("plan", self.ward, *words)
             self.assertEqual((status, self.texts()), (6, before))
@@ -387,7 +415,8 @@ class Questions(ExceededTest):
 @unittest.skipUnless(HAS_CBC, "cbc is not installed")
 class Verbs(ExceededTest):
     def test_a_plan_that_cannot_keep_a_limit_is_a_question(self):
-        # Five nurses with one shift each, and two with a half contract, for 26 shifts a week. There is no plan that exceeded it before.
+        # Five nurses with one shift each, and two with a half contract, for 26 shifts a week. There
+        # is no plan that exceeded it before.
         self.limits("0", "1!")
         shutil.rmtree(self.last())
         status, printed, said = self.runs("plan")

@@ -1,4 +1,5 @@
-"""Tests of nights and weekends that are shared evenly: who has how many, and exchanges that cost nothing."""
+"""Tests of nights and weekends that are shared evenly: who has how many, and exchanges that cost
+nothing."""
 
 import time
 import unittest
@@ -8,7 +9,7 @@ from unittest import mock
 from test_kept_plans import KeptTest
 from ward import HAS_CBC
 
-from inrc2pb.plans import exchanges, verbs
+from inrc2pb.plans import exchanges, planning
 from inrc2pb.plans.exchanges import more_even
 from inrc2pb.plans.facts import beside_days_away, unkept
 from inrc2pb.plans.fairness import (
@@ -20,7 +21,7 @@ from inrc2pb.plans.fairness import (
     may_work_weekends,
     shares,
 )
-from inrc2pb.plans.outcome import Asked
+from inrc2pb.plans.searching import Asked
 from inrc2pb.plans.searching import Found
 from inrc2pb.plans.sentences import evenness_lines
 from inrc2pb.plans.state import SetDay
@@ -33,7 +34,8 @@ STEPS = 100_000
 
 class Shares(KeptTest):
     def test_nights_and_weekends_of_the_period(self):
-        # In the stored roster, twice: Chen has Night from Friday to Sunday, Dilek on Monday, Ewa from Tuesday to Thursday.
+        # In the stored roster, twice: Chen has Night from Friday to Sunday, Dilek on Monday, Ewa
+        # from Tuesday to Thursday.
         found = shares(self.read())
         self.assertEqual(
             {nurse: one.nights for nurse, one in found.items() if one.nights},
@@ -141,8 +143,9 @@ class Exchanges(KeptTest):
         self.assertEqual(sum(penalties(even).values()), sum(penalties(plan).values()))
 
     def test_three_nurses_in_a_circle(self):
-        # Chen has four nights. Dilek may not have them, since she has not the skill, and Grace may, but Chen has not the skill for what
-        # Grace has then: Dilek has it, and Chen that for what Dilek has.
+        # Chen has four nights. Dilek may not have them, since she has not the skill, and Grace may,
+        # but Chen has not the skill for what Grace has then: Dilek has it, and Chen that for what
+        # Dilek has.
         skills = {"Chen": "Nurse, Charge", "Dilek": "Charge, Tutor", "Grace": "Nurse, Tutor"}
         for row in self.rows["nurses"][1:]:
             row[1], row[2] = ("Full", skills[row[0]]) if row[0] in skills else ("Half", row[2])
@@ -193,14 +196,16 @@ class Exchanges(KeptTest):
 
     def test_a_busy_machine_makes_the_same_plan(self):
         # Each look at a clock says that an hour has passed.
-        plan, asked, hours = self.read(), Asked(0, False, 1.0), iter(range(0, 10**9, 3600))
-        quiet = verbs._evened(Found(plan), asked)
+        plan = self.read()
+        asked = Asked(0, False, 1.0)
+        hours = iter(range(0, 10**9, 3600))
+        quiet = planning._evened(Found(plan), asked)
         clocks = {
             name: lambda: float(next(hours))
             for name in ("monotonic", "perf_counter", "process_time", "thread_time", "time")
         }
         with mock.patch.multiple(time, **clocks):
-            busy = more_even(plan, 0, round(exchanges.STEPS_A_SECOND * verbs.EVENING_SHARE))
+            busy = more_even(plan, 0, round(exchanges.STEPS_A_SECOND * planning.EVENING_SHARE))
         self.assertEqual(busy.cells, quiet.cells)
         self.assertNotEqual(busy.works, plan.works)
 

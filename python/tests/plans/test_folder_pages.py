@@ -1,4 +1,5 @@
-"""Tests of the pages of a ward's folder: each of them shows the plan that holds, or weeks that are over, whatever verbs came before."""
+"""Tests of the pages of a ward's folder: each of them shows the plan that holds, or weeks that are
+over, whatever verbs came before."""
 
 import datetime
 import random
@@ -15,12 +16,10 @@ from test_kept_plans import KeptTest
 from test_plans import MONDAY, TWO_WEEKS
 from ward import ROSTER, files
 
-from inrc2pb.commands.plan import read_sheet
-from inrc2pb.plans import pages
-from inrc2pb.plans.outcome import Event, Status
-from inrc2pb.plans.render import lines
+from inrc2pb.plans import pages, ward_folder
+from inrc2pb.plans.verb import Event, Status
 from inrc2pb.plans.store import Means, PlanStore
-from inrc2pb.plans.verbs import Verbs
+from inrc2pb.plans.table import Verbs
 from inrc2pb.plans.ward_folder import WardFolder
 from inrc2pb.programs.progress import Progress
 from inrc2pb.shown.calendars import Issue, calendar
@@ -29,8 +28,10 @@ from inrc2pb.shown.calendars import Issue, calendar
 Shift = Tuple[str, datetime.date, str, str]
 DAY = datetime.timedelta(days=1)
 STORED = files.read_solution(ROSTER).cells
-# A shift on a page and in a calendar, and the sign of a changed cell, after which there is its older shift.
-SHIFT, CHANGED = "(Day|Late|Night) (Charge|Nurse)", "\u0394"
+# A shift on a page and in a calendar, and the sign of a changed cell, after which there is its
+# older shift.
+SHIFT = "(Day|Late|Night) (Charge|Nurse)"
+CHANGED = "\u0394"
 
 
 def shifts_from(monday):
@@ -44,8 +45,9 @@ def shifts_from(monday):
 
 @dataclass(frozen=True)
 class State:
-    """What a test has done until now: a period of two weeks, how many of them are over, its shifts, whether they hang on the wall, the
-    shifts of the calendars, and the pages of weeks that are over, by the Monday of their period."""
+    """What a test has done until now: a period of two weeks, how many of them are over, its shifts,
+    whether they hang on the wall, the shifts of the calendars, and the pages of weeks that are
+    over, by the Monday of their period."""
 
     monday: datetime.date = MONDAY
     over: int = 0
@@ -72,14 +74,13 @@ class FolderPages(KeptTest):
         super().setUp()
         self.states = [State(), State(shifts=shifts_from(MONDAY))]
         self.sheet_monday = MONDAY
-        means = Means(read_sheet, Progress(sys.stderr), lambda line: None)
-        self.verbs, self.store = Verbs(WardFolder(self.ward), means), PlanStore(
-            WardFolder(self.ward), means
-        )
+        means = Means(Progress(sys.stderr), lambda line: None)
+        self.verbs = Verbs(WardFolder(self.ward), means)
+        self.store = PlanStore(WardFolder(self.ward), means)
 
     def said(self, verb, *words):
         """What the verb says."""
-        return lines(self.verbs.done(Event(verb, words)))
+        return self.verbs.done(Event(verb, words)).lines()
 
     @property
     def state(self):
@@ -194,7 +195,8 @@ class FolderPages(KeptTest):
 
     def assert_pages(self, done):
         """Each page shows the plan that holds, or weeks that are over."""
-        state, there = self.state, {path.name for path in self.ward.glob("*.html")}
+        state = self.state
+        there = {path.name for path in self.ward.glob("*.html")}
         is_known = state.shifts is None or self.sheet_monday == state.monday
         wanted = {f"worked-{monday}.html": shifts for monday, shifts in state.worked.items()}
         if is_known and state.planned:
@@ -227,7 +229,8 @@ class Sequences(FolderPages):
         """So many verbs as they come."""
         done = []
         for _ in range(steps):
-            state, has_plan = self.state, self.state.shifts is not None
+            state = self.state
+            has_plan = self.state.shifts is not None
             if has_plan and self.sheet_monday != state.monday:
                 self.days(state.monday)
             some = (
@@ -315,11 +318,9 @@ class Undone(FolderPages):
     def test_undo_beside_a_sheet_that_cannot_be_read(self):
         self.page()
         reader = mock.Mock(side_effect=PermissionError(13, "Permission denied", "ward.ods"))
-        said = lines(
-            Verbs(WardFolder(self.ward), Means(reader, Progress(sys.stderr), print)).done(
-                Event("undo")
-            )
-        )
+        means = Means(Progress(sys.stderr), print)
+        with mock.patch.object(ward_folder, "read_book", reader):
+            said = Verbs(WardFolder(self.ward), means).done(Event("undo")).lines()
         self.assertIn("its pages are not written: ward.ods: Permission denied", said[-1])
         self.assertEqual([path.name for path in self.ward.glob("*.html")], [])
 
@@ -331,7 +332,7 @@ class Undone(FolderPages):
             found = self.verbs.done(Event("undo"))
         self.assertIn(
             "the plan holds, but its pages are not written: worked: Permission denied",
-            lines(found)[-1],
+            found.lines()[-1],
         )
         self.assertEqual(found.status, Status.PAGES_NOT_WRITTEN)
 
@@ -345,7 +346,10 @@ class Undone(FolderPages):
             self.said("over")
         warnings = [line for line in self.said("check") if line.startswith("warning: ")]
         for line, name in zip(warnings, ("roster.html", "wall.html")):
-            says = "shows another plan than the one that holds, as if a run was killed: the verbs plan and page write it anew"
+            says = (
+                "shows another plan than the one that holds, as if a run was killed: the verbs plan"
+                " and page write it anew"
+            )
             self.assertEqual(line, f"warning: {name} {says}")
         self.said("page")
         self.assertNotIn("another plan", "".join(self.said("check")))
@@ -364,7 +368,8 @@ class Undone(FolderPages):
 
 
 class Links(FolderPages):
-    """A folder that several people may write: who links a page or a calendar to a file gets nothing written there."""
+    """A folder that several people may write: who links a page or a calendar to a file gets nothing
+    written there."""
 
     def setUp(self):
         super().setUp()
@@ -461,7 +466,7 @@ class Calendars(FolderPages):
         roster.write_text("")
         (self.ward / "plans" / "undone").mkdir()
         (self.ward / "plans" / "undone" / "0007-other").mkdir()
-        self.assertTrue(self.said("page")[-1].endswith("/calendars"))
+        self.assertIn("/calendars", self.said("page")[-1])
 
 
 if __name__ == "__main__":

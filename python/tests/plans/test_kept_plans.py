@@ -1,26 +1,25 @@
-"""Tests of what verbs keep and say: agreed swaps, lost wishes, nurses to call, and a week that was not worked as planned."""
+"""Tests of what verbs keep and say: agreed swaps, lost wishes, nurses to call, and a week that was
+not worked as planned."""
 
 import datetime
 import unittest
 from dataclasses import replace
-from test_plans import MONDAY, FolderTest
+from test_plans import MONDAY, TWO_WEEKS, FolderTest
 from unittest import mock
 from ward import HAS_CBC, files, run
 from xml.etree import ElementTree
 
-from inrc2pb.commands.plan import read_sheet
+from inrc2pb.sheets.ward import read_sheet
 from inrc2pb.judging.limits import limits_way_out
 from inrc2pb.judging.rules import Charge
 from inrc2pb.plans import pages
-from inrc2pb.plans.changes import (
-    days_off_beside_absences,
-    shift_changes,
-    with_few_changes,
-    without_needless_changes,
-)
+from inrc2pb.plans.changes import days_off_beside_absences, shift_changes, with_few_changes
+from inrc2pb.plans.needless_changes import without_needless_changes
 from inrc2pb.plans.facts import unkept
-from inrc2pb.plans.outcome import Asked, Planned
-from inrc2pb.plans.search_sentences import bound_text, part_lines, planned_lines
+from inrc2pb.plans.planned import Planned
+from inrc2pb.plans.searching import Asked
+from inrc2pb.plans.absence import part_lines
+from inrc2pb.plans.planned import bound_text
 from inrc2pb.plans.searching import known_bound
 from inrc2pb.plans.sentences import (
     beside_lines,
@@ -30,8 +29,11 @@ from inrc2pb.plans.sentences import (
     unkept_lines,
     wish_lines,
 )
-from inrc2pb.plans.state import DayWord, Record, read_record, read_state, record_text
-from inrc2pb.plans.ward import limits_for_leavers, plan_of
+from inrc2pb.plans.state import Record
+from inrc2pb.plans.plan_files import read_record, read_state, record_text
+from inrc2pb.sheets.written_days import DayWord
+from inrc2pb.plans.ward import plan_of
+from inrc2pb.plans.limits import limits_for_leavers
 from inrc2pb.search.bounds import PLAIN, PROVER, Bound
 from inrc2pb.shown.page import page_text
 from inrc2pb.week.dates import PlanDays
@@ -66,9 +68,37 @@ class KeptTest(FolderTest):
         return set(read_state(self.last()).agreed)
 
 
+class AwayNow(KeptTest):
+    def test_a_nurse_who_works_on_days_on_which_she_is_away_now(self):
+        # The plan has Grace at work from Monday to Friday.
+        self.rows["plan"][7][2:4] = ["leave", "leave"]
+        self.write()
+        said = (
+            "week 1 (calendar week 49): Grace works Day on Tue 1 Dec and Wed 2 Dec, and is away"
+            " then, or never works that: plan again"
+        )
+        printed = run("plan", self.ward, "check")[1]
+        self.assertIn(f"warning: {said}\n", printed)
+        self.assertNotIn("No mistake found", printed)
+        self.assertIn(f"{said}\n", self.does("page"))
+        roster = (self.ward / "roster.html").read_text()
+        self.assertIn(said, roster)
+        self.assertNotIn("no plan was found", roster)
+
+    def test_the_mark_of_a_day_away_is_in_its_own_cell(self):
+        # The word fills a narrow cell, and a mark beside it was printed on the next day.
+        self.rows["plan"][7][2] = "leave"
+        self.write()
+        plan = self.read(cell for cell in TWO_WEEKS if cell[:2] != ("Grace", 1))
+        text = page_text(pages.roster_content(self.ward, plan, self.plan))
+        self.assertRegex(text, '<span class="away">leave</span><span [^>]*class="mark"')
+        self.assertIn(".many .away + .mark { display: block", text)
+
+
 class Words(KeptTest):
     def test_a_change_of_skill_is_told_and_the_nurse_is_called(self):
-        old, new = [Cell("Amara", 0, "Day", "Nurse")], [Cell("Amara", 0, "Day", "Charge")]
+        old = [Cell("Amara", 0, "Day", "Nurse")]
+        new = [Cell("Amara", 0, "Day", "Charge")]
         changes = shift_changes(old, new)
         self.assertEqual(
             change_lines(changes, BARE), ["Amara, Mon of week 1: Day Charge instead of Day Nurse"]
@@ -76,8 +106,10 @@ class Words(KeptTest):
         self.assertEqual(call_lines(changes), ["1 nurse to call: Amara"])
 
     def test_who_is_away_on_a_changed_day_is_not_called(self):
-        old, new = [Cell("Amara", 0, "Day", "Nurse")], [Cell("Bruno", 0, "Day", "Nurse")]
-        changes, away = shift_changes(old, new), {("Amara", 0): "ill"}
+        old = [Cell("Amara", 0, "Day", "Nurse")]
+        new = [Cell("Bruno", 0, "Day", "Nurse")]
+        changes = shift_changes(old, new)
+        away = {("Amara", 0): "ill"}
         says = [
             "Amara, Mon of week 1: ill instead of Day Nurse",
             "Bruno, Mon of week 1: Day Nurse instead of off",
@@ -102,7 +134,7 @@ class Words(KeptTest):
                 bound=None,
                 is_stopped=False,
             )
-            self.assertIn(says, planned_lines(planned, ""))
+            self.assertIn(says, planned.lines())
 
     def test_who_works_though_she_is_away_is_told(self):
         # Grace works Day on Wednesday and Friday of both weeks, and Amara Day in charge on Monday.
@@ -110,10 +142,22 @@ class Words(KeptTest):
         self.rows["plan"][1][1] = "leave"
         self.write()
         says = [
-            "week 1 (calendar week 49): no plan was found that keeps every absence: Amara works Day on Mon 30 Nov, Grace works Day on Wed 2 Dec and Fri 4 Dec",
-            "week 1 (calendar week 49): lower the minimum of Charge and Nurse in the sheet needs, or give someone the skill",
-            "week 2 (calendar week 50): no plan was found that keeps every absence: Grace works Day on Fri 11 Dec",
-            "week 2 (calendar week 50): lower the minimum of Nurse in the sheet needs, or give someone the skill",
+            (
+                "week 1 (calendar week 49): no plan was found that keeps every absence: Amara works"
+                " Day on Mon 30 Nov, Grace works Day on Wed 2 Dec and Fri 4 Dec"
+            ),
+            (
+                "week 1 (calendar week 49): lower the minimum of Charge and Nurse in the sheet"
+                " needs, or give someone the skill"
+            ),
+            (
+                "week 2 (calendar week 50): no plan was found that keeps every absence: Grace works"
+                " Day on Fri 11 Dec"
+            ),
+            (
+                "week 2 (calendar week 50): lower the minimum of Nurse in the sheet needs, or give"
+                " someone the skill"
+            ),
         ]
         self.assertEqual(unkept_lines(self.read(), unkept(self.read())), says)
         self.assertEqual(unkept_lines(self.plan, unkept(self.plan)), [])
@@ -140,7 +184,10 @@ class Words(KeptTest):
         for row in self.rows["nurses"][1:]:
             row[3] = "" if row[0] == "Dilek" else "Night"
         self.write()
-        fixed = "the sheet plan fixes it for Grace: empty her cell of this day, save the sheet, and look again"
+        fixed = (
+            "the sheet plan fixes it for Grace: empty her cell of this day, save the sheet, and"
+            " look again"
+        )
         self.assertEqual(
             self.does("swap", "Grace", "Mon"),
             f"nobody can take Grace's Day on Mon 30 Nov: {fixed}\n",
@@ -154,8 +201,8 @@ class Words(KeptTest):
         self.assertIn("who could take Grace's Day on Mon 30 Nov", self.does("swap", "Grace", "Mon"))
 
     def test_the_part_of_a_contract_that_counts_is_told(self):
-        # Nine of 14 days: 8 * 9 / 14 shifts, rounded down, and 10 * 9 / 14, rounded up; at most three days off in a row. Ill days change
-        # nothing of the shifts.
+        # Nine of 14 days: 8 * 9 / 14 shifts, rounded down, and 10 * 9 / 14, rounded up; at most
+        # three days off in a row. Ill days change nothing of the shifts.
         self.rows["contracts"][1][1:3] = ["8", "10!"]
         self.write()
         begun = self.read()
@@ -191,7 +238,8 @@ class Words(KeptTest):
             )
 
     def test_changes_that_save_nothing_are_taken_back(self):
-        # The roster has nobody too many but Grace on Monday to Friday: without her shifts Day Nurse has fewer than best, or none.
+        # The roster has nobody too many but Grace on Monday to Friday: without her shifts Day Nurse
+        # has fewer than best, or none.
         old = self.plan
         taken = [cell for cell in old.cells if cell.nurse not in ("Grace",) or cell.day > 6]
         needless = old.with_cells([*taken, *(Cell("Grace", day, "Day", "Nurse") for day in (0, 1))])
@@ -204,7 +252,8 @@ class Words(KeptTest):
         self.assertEqual([one[:2] for one in shift_changes(old.cells, found.cells)], [("Grace", 4)])
 
     def test_changes_cost_as_much_as_in_a_search(self):
-        # Finn works late on Saturday, and Grace is off: her new shift costs 20 points, and 40 to call both, but his day off costs nothing.
+        # Finn works late on Saturday, and Grace is off: her new shift costs 20 points, and 40 to
+        # call both, but his day off costs nothing.
         cells = [cell for cell in self.plan.cells if (cell.nurse, cell.day) != ("Finn", 5)] + [
             Cell("Grace", 5, "Late", "Nurse")
         ]
@@ -241,7 +290,10 @@ class Words(KeptTest):
         self.rows["plan"][7][6] = "training"
         self.write()
         plan = self.read()
-        says = "Grace has 6 days in a row with work or training, Mon 30 Nov to Sat 5 Dec, and her contract at most 5 with work"
+        says = (
+            "Grace has 6 days in a row with work or training, Mon 30 Nov to Sat 5 Dec, and her"
+            " contract at most 5 with work"
+        )
         self.assertEqual(list(beside_lines(plan)), [says])
         self.assertEqual(list(beside_lines(self.plan)), [])
 
@@ -257,7 +309,10 @@ class Words(KeptTest):
         row = next(row for row in self.rows["plan"] if row[0] == nurse)
         row[night + 2] = "training"
         self.write()
-        says = f"{nurse} works Night on {BARE_DATES[night]}, and has training on {BARE_DATES[night + 1]}"
+        says = (
+            f"{nurse} works Night on {BARE_DATES[night]}, and has training on"
+            f" {BARE_DATES[night + 1]}"
+        )
         printed = run("plan", self.ward, "check")[1]
         self.assertIn(f"warning: {says}\n", printed)
         self.assertIn(
@@ -272,7 +327,8 @@ class Words(KeptTest):
         )
 
     def test_days_away_that_count_as_days_off_are_told(self):
-        # Grace is off on both weekends. Her contract has at most four days off in a row; she has leave on the three days after the first one.
+        # Grace is off on both weekends. Her contract has at most four days off in a row; she has
+        # leave on the three days after the first one.
         self.rows["contracts"][1][6] = "4"
         self.rows["plan"][7][8:11] = ["leave"] * 3
         self.write()
@@ -280,19 +336,54 @@ class Words(KeptTest):
         plan = plan.with_cells(
             cell for cell in plan.cells if cell.nurse != "Grace" or cell.day not in (7, 8, 9)
         )
-        says = "Mon 7 Dec to Wed 9 Dec: 5 days off in a row (2 before Mon 7 Dec), at most 4: her days away (leave) count as days off"
+        says = (
+            "Mon 7 Dec to Wed 9 Dec: 5 days off in a row (2 before Mon 7 Dec), at most 4: her days"
+            " away (leave) count as days off"
+        )
         # Then she works two days in a row, of three at least.
-        short = "Thu 10 Dec to Fri 11 Dec: only 2 days with work in a row, at least 3: the days in a row end at her days away (leave)"
+        short = (
+            "Thu 10 Dec to Fri 11 Dec: only 2 days with work in a row, at least 3: the days in a"
+            " row end at her days away (leave)"
+        )
         due = "60 of the points are due to days away"
         self.assertEqual(
             due_lines(plan), [f"30 points: Grace, {short}", f"30 points: Grace, {says}", due]
         )
         self.assertEqual(due_lines(self.plan), [])
 
+    def test_all_points_that_days_away_take_are_counted(self):
+        # Day has at least three days in a row, and contracts at least two days off in a row. Grace
+        # works Day from Tuesday of week 1 to Sunday, but for her leave on Thursday, and is away
+        # again on Monday of week 2: then she works to its end.
+        self.rows["shifts"][1][1] = "4"
+        self.rows["plan"][7][4] = self.rows["plan"][7][8] = "leave"
+        self.write()
+        works = [1, 2, 4, 5, 6, *range(8, 14)]
+        grace = [Cell("Grace", day, "Day", "Nurse") for day in works]
+        plan = self.read([cell for cell in TWO_WEEKS if cell.nurse != "Grace"] + grace)
+        ends = "the days in a row end at her days away (leave)"
+        off = "her days away (leave) count as days off"
+        *said, points = due_lines(plan)
+        self.assertEqual(
+            said,
+            [
+                f"30 points: Grace, Tue 1 Dec to Wed 2 Dec: only 2 days on Day in a row, at least"
+                f" 4: {ends}",
+                f"30 points: Grace, Tue 1 Dec to Wed 2 Dec: only 2 days with work in a row, at"
+                f" least 3: {ends}",
+                f"30 points: Grace, Thu 3 Dec: only 1 day off, at least 2: {off}",
+                f"15 points: Grace, before Mon 7 Dec: only 3 days on Day in a row, at least 4:"
+                f" {ends}",
+                f"30 points: Grace, Mon 7 Dec: only 1 day off, at least 2: {off}",
+            ],
+        )
+        self.assertEqual(points, "135 of the points are due to days away")
+
     def test_the_limit_of_a_nurse_who_leaves_is_told_and_keeps_her_shifts_of_days_before_a_search(
         self,
     ):
-        # Grace has five shifts from Monday to Friday. Her limit is that of the part of the plan before she leaves, rounded up.
+        # Grace has five shifts from Monday to Friday. Her limit is that of the part of the plan
+        # before she leaves, rounded up.
         self.rows["contracts"][1][1:3] = ["0", "8!"]
         for first, most in ((8, 4), (6, 3), (3, 2)):
             self.rows["plan"][7][1:] = [""] * (first - 1) + ["away"] * (15 - first)
@@ -343,11 +434,13 @@ class Words(KeptTest):
         self.assertEqual(status, 0)
 
     def test_an_illness_takes_no_shifts_of_other_days(self):
-        # Grace has five shifts in both weeks, and her limit is ten. Two days of a weekend alone count as two.
+        # Grace has five shifts in both weeks, and her limit is ten. Two days of a weekend alone
+        # count as two.
         self.rows["contracts"][1][1:3] = ["8", "10!"]
         self.rows["plan"][7][6:8] = ["ill", "ill"]
         self.write()
-        cells, more = self.plan.cells, Cell("Grace", 12, "Day", "Nurse")
+        cells = self.plan.cells
+        more = Cell("Grace", 12, "Day", "Nurse")
         fewer = [one for one in cells if (one.nurse, one.day) != ("Grace", 0)]
         for rosters, most in ((cells, 2), (fewer, 1), ([*cells, more], 2), ([], 0)):
             plan = self.read(rosters)
@@ -364,8 +457,10 @@ class Words(KeptTest):
             )
 
     def test_days_off_beside_days_away_cost_more(self):
-        # Grace is off on both weekends, and ill on Friday: her weekend costs more, and days on which she is always off do not count.
-        self.rows["plan"][7][5], self.rows["nurses"][7][4] = "ill", "Sun"
+        # Grace is off on both weekends, and ill on Friday: her weekend costs more, and days on
+        # which she is always off do not count.
+        self.rows["plan"][7][5] = "ill"
+        self.rows["nurses"][7][4] = "Sun"
         self.write()
         plan = self.read()
         self.assertEqual(days_off_beside_absences(plan), {("Grace", 5)})
@@ -442,12 +537,18 @@ class Weeks(KeptTest):
             "after these corrections the plan does not fit any more: plan again, from Mon 7 Dec on"
         )
         self.assertIn(
-            "week 2 (calendar week 50), not allowed on the day after: Bruno may not work Day on Mon after Night on the Sunday before\n",
+            (
+                "week 2 (calendar week 50), not allowed on the day after: Bruno may not work Day on"
+                " Mon after Night on the Sunday before\n"
+            ),
             printed,
         )
         self.assertIn(f"{cure}\n", printed)
         self.assertIn(
-            "week 1 (calendar week 49), below the minimum number: Fri Late Nurse has 0 nurses and needs at least 1\n",
+            (
+                "week 1 (calendar week 49), below the minimum number: Fri Late Nurse has 0 nurses"
+                " and needs at least 1\n"
+            ),
             printed,
         )
         self.assertIn("if it was not worked so: undo, then over with other corrections", printed)
@@ -462,7 +563,10 @@ class Weeks(KeptTest):
         printed = run("plan", self.ward, "check")[1]
         for week in ("week 1 (calendar week 49)", "week 2 (calendar week 50)"):
             self.assertIn(
-                f"{week}: below the minimum number: Fri Late Nurse has 1 nurse and needs at least 2\n",
+                (
+                    f"{week}: below the minimum number: Fri Late Nurse has 1 nurse and needs at"
+                    " least 2\n"
+                ),
                 printed,
             )
 
@@ -472,17 +576,24 @@ class Weeks(KeptTest):
         self.write()
         printed = self.does("over", "Grace", "Sat", "Day", "Grace", "Sun", "Day", "--do")
         self.assertIn(
-            "week 1 (calendar week 49) exceeds a limit that holds: Grace has 7 days of work in a row",
+            (
+                "week 1 (calendar week 49) exceeds a limit that holds: Grace has 7 days of work in"
+                " a row"
+            ),
             printed,
         )
         self.assertIn(
-            "week 2 (calendar week 50) exceeds a limit that holds: Grace has 12 days of work in a row, to Fri 11 Dec, of at most 5",
+            (
+                "week 2 (calendar week 50) exceeds a limit that holds: Grace has 12 days of work in"
+                " a row, to Fri 11 Dec, of at most 5"
+            ),
             printed,
         )
         self.assertIn("plan again, from Mon 7 Dec on", printed)
 
     def test_the_page_for_the_wall(self):
-        # On Friday of week 2 one nurse fewer is best, as on a bank holiday; the other cells are as in all weeks.
+        # On Friday of week 2 one nurse fewer is best, as on a bank holiday; the other cells are as
+        # in all weeks.
         self.rows["needs"].append(["2", "Day", "Nurse", *[""] * 4, "1", "", ""])
         self.rows["nurses"][6][4] = "Wed"
         self.write()
@@ -499,14 +610,18 @@ class Weeks(KeptTest):
         finn = next(row for row in page.iter("tr") if "".join(row[0].itertext()) == "Finn")
         # A day on which she never works is off, and not away.
         self.assertEqual("".join(finn[3].itertext()), "")
-        # In both weeks five late shifts of eight and a half hours, and one weekend; a wish is granted.
+        # In both weeks five late shifts of eight and a half hours, and one weekend; a wish is
+        # granted.
         self.assertEqual(
             ["".join(cell.itertext()) for cell in finn[-5:]], ["10", "85", "0", "2", "1/1"]
         )
 
     def test_a_wall_that_is_undone(self):
         self.does("page")
-        gone = f"taken away: {self.ward}/wall.html, {self.ward}/calendars: take down what hangs on the wall\n"
+        gone = (
+            f"taken away: {self.ward}/wall.html, {self.ward}/calendars: take down what hangs on the"
+            " wall\n"
+        )
         self.assertIn(gone, self.does("undo"))
 
     def test_a_page_of_a_plan_on_the_wall_is_undone_alone(self):
@@ -518,7 +633,10 @@ class Weeks(KeptTest):
         printed = self.does("undo")
         self.assertRegex(
             printed,
-            "^undone: page, [0-9: -]+\nthe plan of over, [0-9: -]+ holds again, with the same shifts\n",
+            (
+                "^undone: page, [0-9: -]+\nthe plan of over, [0-9: -]+ holds again, with the same"
+                " shifts\n"
+            ),
         )
         self.assertEqual(self.cells(), cells)
         self.assertEqual((self.ward / "wall.html").read_text().split("<table")[1:], wall)
@@ -534,7 +652,10 @@ class Weeks(KeptTest):
         self.assertTrue((self.ward / "wall.html").exists())
         printed = self.does("undo")
         self.assertIn(
-            "its pages are not written: the plan has 'Grcae Mon Day Nurse', and the spreadsheet has not all of these names",
+            (
+                "its pages are not written: the plan has 'Grcae Mon Day Nurse', and the spreadsheet"
+                " has not all of these names"
+            ),
             printed,
         )
         # The pages of the plan that was undone are not left.
@@ -556,7 +677,10 @@ class Weeks(KeptTest):
         self.does("over")
         text = (self.ward / "worked-2026-11-30.html").read_text()
         self.assertIn(
-            "<p>Week 1 (calendar week 49) has no cost, since it breaks rule H2: the sums on this page are without it.</p>",
+            (
+                "<p>Week 1 (calendar week 49) has no cost, since it breaks rule H2: the sums on"
+                " this page are without it.</p>"
+            ),
             text,
         )
         self.assertNotIn("Week 2 (calendar week 50) has no cost", text)
@@ -584,11 +708,17 @@ class NotKept(KeptTest):
         self.assertEqual(status, 6, said)
         self.assertRegex(
             printed,
-            "(?m)^week 2 \\(calendar week 50\\): no plan was found that keeps every limit: .* has [0-9]+ shifts of at most 2, above on ",
+            (
+                "(?m)^week 2 \\(calendar week 50\\): no plan was found that keeps every limit: .*"
+                " has [0-9]+ shifts of at most 2, above on "
+            ),
         )
         self.assertRegex(
             printed,
-            "(?m)^week 2 \\(calendar week 50\\): lower minimum numbers, hold fewer shifts, or allow these nurses more; ",
+            (
+                "(?m)^week 2 \\(calendar week 50\\): lower minimum numbers, hold fewer shifts, or"
+                " allow these nurses more; "
+            ),
         )
         self.assertIn(
             "\nthis plan is written, but it does not keep what the first lines say: ", printed
@@ -613,7 +743,8 @@ class Training(KeptTest):
 
     def test_the_bound_in_words(self):
         search = mock.Mock(penalty=1170)
-        kept, ends = "plan that keeps all absences and limits", "More seconds may help."
+        kept = "plan that keeps all absences and limits"
+        ends = "More seconds may help."
         least = f"This plan costs 1170 points. At least 1080 cannot be avoided by a {kept}"
         proved = f"{least} (proved by inrc2pb-bound)."
         beside = "plan with training as work in a row, and no night shift before it or leave"
@@ -635,9 +766,11 @@ class Training(KeptTest):
             ),
             (1080, PROVER, 1170, f"{proved} No {beside}, costs less (not proved)."),
         ):
-            search.bound, search.bound_beside = Bound(points, by, "absences and limits"), above
+            search.bound = Bound(points, by, "absences and limits")
+            search.bound_beside = above
             self.assertEqual(bound_text(known_bound(search)), says)
-        search.bound, search.bound_beside = Bound(1170, PROVER), None
+        search.bound = Bound(1170, PROVER)
+        search.bound_beside = None
         self.assertEqual(
             bound_text(known_bound(search)),
             "This plan costs 1170 points, and no plan costs less (proved by inrc2pb-bound).",
@@ -685,7 +818,8 @@ class Agreed(KeptTest):
 
     def test_a_swap_that_is_typed_again_is_taken_back(self):
         self.does("swap", "Grace", "Tue", "Chen", "--do")
-        swapped, tuesday = self.cells(), {("Grace", 1), ("Chen", 1)}
+        swapped = self.cells()
+        tuesday = {("Grace", 1), ("Chen", 1)}
         says = "this takes their swap back: later plans do not keep it\n"
         self.assertIn(says, self.does("swap", "Grace", "Mon", "Chen"))
         for words, agreed in (

@@ -17,9 +17,9 @@ from served_page import ServedPage
 from test_plans import DATED, DATES
 from ward import HAS_CBC, run
 
-from inrc2pb.plans import verbs
-from inrc2pb.plans.local_forms import FORMS, event_of, form_markup
-from inrc2pb.plans.outcome import Event
+from inrc2pb.plans import planning
+from inrc2pb.page.forms import FORMS, event_of, form_markup
+from inrc2pb.plans.verb import Event
 
 
 class Page(ServedPage):
@@ -44,7 +44,8 @@ class Page(ServedPage):
     def test_no_link_is_followed_out_of_the_folder(self):
         self.write_plan()
         self.sends(verb="page")
-        secret, calendars = self.folder / "secret.txt", self.ward / "calendars"
+        secret = self.folder / "secret.txt"
+        calendars = self.ward / "calendars"
         secret.write_text("the secret")
         (self.ward / "worked-2026-11-02.html").symlink_to(secret)
         (calendars / "Chen.ics").unlink()
@@ -53,7 +54,8 @@ class Page(ServedPage):
         self.assertNotIn("Chen.ics", self.asks(path=f"{self.site.path}calendars")[1])
         for name in ("worked-2026-11-02.html", "calendars/Chen.ics"):
             self.assertEqual(self.asks(path=f"{self.site.path}{name}")[0], 404)
-        # Nor a folder of calendars that is a link, nor the last roster if the spreadsheet has a fault.
+        # Nor a folder of calendars that is a link, nor the last roster if the spreadsheet has a
+        # fault.
         calendars.rename(self.folder / "other")
         calendars.symlink_to(self.folder / "other")
         self.assertEqual(self.asks(path=f"{self.site.path}calendars/Finn.ics")[0], 404)
@@ -85,23 +87,33 @@ class Page(ServedPage):
         for status, head in (
             (
                 "403",
-                f"GET {self.site.path} HTTP/1.0\r\nHost: {self.site.netloc}\r\nHost: evil.example\r\n",
+                (
+                    f"GET {self.site.path} HTTP/1.0\r\nHost: {self.site.netloc}\r\nHost:"
+                    " evil.example\r\n"
+                ),
             ),
             ("403", f"{post}{length}Sec-Fetch-Site: cross-site\r\n"),
             (
                 "403",
-                f"{post}{length}Origin: http://{self.site.netloc}\r\nOrigin: http://evil.example\r\n",
+                (
+                    f"{post}{length}Origin: http://{self.site.netloc}\r\nOrigin:"
+                    " http://evil.example\r\n"
+                ),
             ),
             ("400", f"{post}{length}Content-Length: 5\r\n"),
             ("400", f"{post}{length}Transfer-Encoding: chunked\r\n"),
             (
                 "303",
-                f"{post}{length}Sec-Fetch-Site: same-origin\r\nOrigin: http://{self.site.netloc}\r\n",
+                (
+                    f"{post}{length}Sec-Fetch-Site: same-origin\r\nOrigin:"
+                    f" http://{self.site.netloc}\r\n"
+                ),
             ),
         ):
-            with self.subTest(head), socket.create_connection(
-                (self.site.hostname, self.site.port)
-            ) as browser:
+            with (
+                self.subTest(head),
+                socket.create_connection((self.site.hostname, self.site.port)) as browser,
+            ):
                 browser.sendall(f"{head}\r\n{form}".encode())
                 self.assertEqual(browser.makefile("rb").readline().split()[1].decode(), status)
 
@@ -196,7 +208,10 @@ class Page(ServedPage):
     def test_a_long_text_begins_with_what_a_planner_looks_for(self):
         page = self.sends(verb="check")
         shown, folded = re.search(
-            r'<pre role="status">([^<]*)</pre>\s*<details><summary>More</summary>\s*<pre>([^<]*)</pre>',
+            (
+                r"<pre"
+                r' role="status">([^<]*)</pre>\s*<details><summary>More</summary>\s*<pre>([^<]*)</pre>'
+            ),
             page,
         ).groups()
         self.assertTrue("No mistake found." in shown or "warning: " in shown)
@@ -287,16 +302,19 @@ class Page(ServedPage):
         )
         for seconds, fields in ((120.0, {}), (3.0, {"seconds": "3"})):
             for form, event in (
-                ({"verb": "plan"}, Event("plan", (), seconds)),
-                ({"verb": "back", "nurse": "Chen"}, Event("back", ("Chen",), seconds)),
+                ({"verb": "plan"}, Event("plan", (), seconds, on_page=True)),
+                (
+                    {"verb": "back", "nurse": "Chen"},
+                    Event("back", ("Chen",), seconds, on_page=True),
+                ),
                 (
                     {"verb": "away", "reason": "ill", "nurse": "Chen"},
-                    Event("ill", ("Chen",), seconds),
+                    Event("ill", ("Chen",), seconds, on_page=True),
                 ),
             ):
                 self.assertEqual(event_of({**form, **fields}, self.jobs.seconds), event)
         self.write_plan()
-        self.assertEqual(self.asks()[1].count('name="seconds"'), 3)
+        self.assertEqual(self.asks()[1].count('name="seconds"'), 4)
 
     def test_the_usual_seconds_of_a_search(self):
         # Twenty for each week of a plan, and thirty for a change.
@@ -307,7 +325,7 @@ class Page(ServedPage):
         }
         self.assertEqual(
             {verb: seconds for verb, seconds in found.items() if seconds},
-            {"plan": ["40"], "away": ["30"], "back": ["30"]},
+            {"plan": ["40"], "away": ["30"], "back": ["30"], "set": ["30"]},
         )
         ended = plan.with_state(replace(plan.state, open_week=1))
         self.assertIn('placeholder="20"', form_markup(FORMS[1], ended, "/", ""))
@@ -337,7 +355,10 @@ class Page(ServedPage):
     def test_the_question_of_unpaid_days_says_what_counts_of_the_contract(self):
         # 17 * 13 / 14 shifts, rounded down; the maximum, 22, is more than the days of the plan.
         self.write_plan()
-        says = "Chen is away or unpaid on 1 of 14 days: contract Full counts in proportion, at least 15 shifts in place of at least 17."
+        says = (
+            "Chen is away or unpaid on 1 of 14 days: contract Full counts in proportion, at least"
+            " 15 shifts in place of at least 17."
+        )
         for reason in ("unpaid", "ill"):
             asked = self.jobs.asked(Event(reason, ("Chen", "2026-12-04")))
             self.assertEqual(asked.lines, [says] if reason == "unpaid" else [])
@@ -346,10 +367,8 @@ class Page(ServedPage):
     def test_the_question_of_an_illness_says_who_moves_where(self):
         # Chen has Night on Friday, and somebody has to take it.
         self.write_plan()
-        before, form = (
-            self.cells(),
-            "verb=away&nurse=Chen&first=2026-12-04&last=&reason=ill&seconds=120",
-        )
+        before = self.cells()
+        form = "verb=away&nurse=Chen&first=2026-12-04&last=&reason=ill&seconds=120"
         self.assertEqual(self.asks("POST", form=form)[0], 303)
         page = html.unescape(self.ended())
         self.assertIn(
@@ -362,7 +381,7 @@ class Page(ServedPage):
             (page.count("Yes, write it"), self.cells(), "Take it back" in page), (1, before, False)
         )
         # Yes writes this plan, without another search.
-        with mock.patch.object(verbs, "search_plan", side_effect=AssertionError):
+        with mock.patch.object(planning, "search_plan", side_effect=AssertionError):
             written = self.asks("POST", form=self.yes(page))[0], self.ended()
         self.assertEqual(written[0], 303)
         self.assertIn("Take it back", written[1])
@@ -399,7 +418,8 @@ class Page(ServedPage):
         )
         self.sends(verb="over")
         self.assertRegex(
-            self.asks("POST", form="verb=undo")[1], "<pre>this takes back: over, [0-9: -]+</pre>"
+            self.asks("POST", form="verb=undo")[1],
+            "<pre>this takes back: over \\(on the page\\), [0-9: -]+</pre>",
         )
 
     def test_a_day_of_leave_that_is_clicked(self):
@@ -437,7 +457,8 @@ class Page(ServedPage):
             fields,
         )
         # A swap that cannot be has no such button: Finn never works Night.
-        cells, nurses = self.cells(), [row[0] for row in self.rows["nurses"][1:]]
+        cells = self.cells()
+        nurses = [row[0] for row in self.rows["nurses"][1:]]
         nurse, day = next(
             key
             for key, cell in sorted(cells.items())
@@ -486,11 +507,13 @@ class Page(ServedPage):
 
     def test_two_browsers(self):
         self.write_plan()
-        # The first one waits for its answer, while the second one has undone the plan: the plan that it asks for is gone.
+        # The first one waits for its answer, while the second one has undone the plan: the plan
+        # that it asks for is gone.
         self.assertEqual(self.asks("POST", form="verb=over&corrections=")[0], 200)
         self.assertIn("there is no plan any more", self.sends(verb="undo"))
         self.assertIn("has no plan yet", self.sends(verb="over"))
-        # A verb that another run keeps waiting says so, and a second browser cannot begin one meanwhile.
+        # A verb that another run keeps waiting says so, and a second browser cannot begin one
+        # meanwhile.
         with open(self.ward / "plans" / "lock", "w") as lock:
             fcntl.flock(lock, fcntl.LOCK_EX)
             self.asks("POST", form="verb=check&sure=yes")
@@ -508,7 +531,10 @@ class Page(ServedPage):
 
     def test_the_points_of_the_plan_are_above_the_roster(self):
         plan = self.write_plan()
-        self.assertIn(f'<p class="links">{plan.view().penalty} points. <a ', self.asks()[1])
+        self.assertIn(
+            f'<p class="links">{plan.view().penalty} points. Last written: plan, 2026-11-28 12:00. <a ',
+            self.asks()[1],
+        )
         # A plan that breaks a hard rule has none: nobody has the first night.
         path = self.last() / "roster-0.txt"
         path.write_text(
@@ -517,7 +543,7 @@ class Page(ServedPage):
             .replace("ASSIGNMENTS = 33", "ASSIGNMENTS = 32")
         )
         page = self.asks()[1]
-        self.assertIn('<p class="links"><a ', page)
+        self.assertIn('<p class="links">Last written: ', page)
         self.assertNotIn(" points. ", page)
 
     def test_the_pages_that_are_linked(self):

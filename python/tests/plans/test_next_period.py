@@ -3,25 +3,31 @@
 import datetime
 import sys
 import unittest
+from dataclasses import replace
 from xml.etree import ElementTree
 
 from test_kept_plans import KeptTest
 from test_plans import MONDAY, TWO_WEEKS
 from ward import run
 
-from inrc2pb.commands.plan import read_sheet
+from inrc2pb.sheets.ward import read_sheet
 from inrc2pb.plans.pages import worked_pages
-from inrc2pb.plans.state import read_state
+from inrc2pb.plans.state import SetDay
+from inrc2pb.plans.plan_files import read_state
+from inrc2pb.sheets.written_days import with_days
 from inrc2pb.plans.store import Means, plan_texts
-from inrc2pb.plans.verbs import Verbs
+from inrc2pb.plans.table import Verbs
 from inrc2pb.plans.ward import continued
 from inrc2pb.plans.ward_folder import WardFolder
 from inrc2pb.programs.progress import Progress
 
 
-class NextPeriod(KeptTest):
+class PeriodTest(KeptTest):
+    """A ward whose period of two weeks ends."""
+
     def write_next(self, monday):
-        """Writes the days of a period of two weeks into the sheet plan, from this Monday on, or without dates."""
+        """Writes the days of a period of two weeks into the sheet plan, from this Monday on, or
+        without dates."""
         heads = [f"{monday + datetime.timedelta(days=day)}" for day in range(14)] if monday else []
         heads = heads or [
             f"{name} {week}"
@@ -31,26 +37,41 @@ class NextPeriod(KeptTest):
         self.rows["plan"] = [["nurse", *heads], *([row[0]] for row in self.rows["plan"][1:])]
         self.write()
 
-    def plan_next(self):
-        """Writes a plan of the period, which has the stored roster in both weeks."""
-        plan = continued(read_sheet(self.ward, None, ()), read_state(self.last())).with_cells(
-            TWO_WEEKS
-        )
+    def plan_next(self, cells=TWO_WEEKS):
+        """Writes a plan of the period, which has the stored roster in both weeks, or these
+        cells."""
+        plan = self.verbs().current().with_cells(cells)
         now = datetime.datetime(2026, 12, 13, 12, 0)
         WardFolder(self.ward).add("plan", plan_texts(plan, plan.state.record("plan", now)), now)
+
+    def verbs(self):
+        """The verbs of the folder."""
+        return Verbs(WardFolder(self.ward), Means(Progress(sys.stderr), print))
 
     def end_period(self):
         """Ends both weeks. Returns what the last verb has printed."""
         self.does("over")
         return self.does("over")
 
+    def sums(self, page):
+        """The sums of each nurse on a page."""
+        tables = [
+            table
+            for table in ElementTree.parse(self.ward / page).iter("table")
+            if "wishes of each nurse" in "".join(table.itertext())
+        ]
+        rows = [["".join(cell.itertext()) for cell in row] for row in tables[0].iter("tr")]
+        return {row[0]: row[1:] for row in rows}
+
+
+class NextPeriod(PeriodTest):
     def worked(self):
         """The names of the pages of weeks that are over."""
         return list(worked_pages(self.ward))
 
     def linked(self):
         """Those of them that the local page links."""
-        verbs = Verbs(WardFolder(self.ward), Means(read_sheet, Progress(sys.stderr), print))
+        verbs = self.verbs()
         return list(verbs.worked_pages(verbs.current()))
 
     def test_each_period_has_a_page_of_its_weeks(self):
@@ -71,7 +92,8 @@ class NextPeriod(KeptTest):
         self.assertEqual(self.linked(), [first])
 
     def test_sums_of_the_period_and_of_all_periods(self):
-        # Grace has five shifts in each week, of 8:30 hours, and Chen three nights and a weekend with work.
+        # Grace has five shifts in each week, of 8:30 hours, and Chen three nights and a weekend
+        # with work.
         self.does("page")
         rows = self.sums("roster.html")
         self.assertEqual(
@@ -94,15 +116,14 @@ class NextPeriod(KeptTest):
         self.assertEqual(rows["Grace"], ["10", "85", "0", "0", "-", "20", "170", "0", "0", "1/1"])
         self.assertEqual(rows["Chen"][5:], ["20", "173", "12", "4", "0/1"])
 
-    def sums(self, page):
-        """The sums of each nurse on a page."""
-        tables = [
-            table
-            for table in ElementTree.parse(self.ward / page).iter("table")
-            if "wishes of each nurse" in "".join(table.itertext())
-        ]
-        rows = [["".join(cell.itertext()) for cell in row] for row in tables[0].iter("tr")]
-        return {row[0]: row[1:] for row in rows}
+    def test_sums_of_all_periods_are_those_of_shifts_that_were_worked(self):
+        # Grace has five shifts of 8:30 hours in each week, and takes two of the last week off.
+        self.does("over")
+        self.does("over", "Grace", "Thu", "off", "Grace", "Fri", "ill")
+        self.write_next(MONDAY + datetime.timedelta(days=14))
+        self.plan_next()
+        self.does("page")
+        self.assertEqual(self.sums("roster.html")["Grace"][5:7], ["18", "153"])
 
     def test_each_period_without_dates_has_a_page_of_its_weeks(self):
         for folder in (self.ward / "plans").glob("0*"):
@@ -128,7 +149,10 @@ class NextPeriod(KeptTest):
         # The last row of the needs is of a bank holiday in week 2.
         self.rows["needs"].append(["2", "Day", "Nurse", *[""] * 4, "1", "", ""])
         self.write()
-        row = f"sheet needs, row {len(self.rows['needs'])}: weeks count anew, and this is week 2 (calendar week 52), now Mon 21 Dec to Sun 27 Dec: "
+        row = (
+            f"sheet needs, row {len(self.rows['needs'])}: weeks count anew, and this is week 2"
+            " (calendar week 52), now Mon 21 Dec to Sun 27 Dec: "
+        )
         self.assertNotIn("count anew", run("plan", self.ward, "check")[1])
         self.assertIn(row, self.end_period())
         self.write_next(MONDAY + datetime.timedelta(days=14))
@@ -137,7 +161,8 @@ class NextPeriod(KeptTest):
         self.rows["needs"][2][5] = "2+1"
         self.write()
         self.assertIn(f"warning: {row}", run("plan", self.ward, "check")[1])
-        # After the row, its week or its days were corrected, or the row was emptied, the warning is gone.
+        # After the row, its week or its days were corrected, or the row was emptied, the warning is
+        # gone.
         right = ["2", "day", "Nurse", *[""] * 4, "1", "", ""]
         for other in (
             ["0", *right[1:]],
@@ -153,6 +178,111 @@ class NextPeriod(KeptTest):
         self.assertIn(f"warning: {row}", run("plan", self.ward, "check")[1])
         self.plan_next()
         self.assertNotIn("count anew", run("plan", self.ward, "check")[1])
+
+    def test_a_date_as_a_number_of_a_spreadsheet_does_not_count_anew(self):
+        # 46365 is Wednesday 9 December 2026.
+        self.rows["needs"].append(["46365", "Day", "Nurse", "0+1", *[""] * 6])
+        self.write()
+        self.assertNotIn("count anew", self.end_period())
+        self.write_next(MONDAY + datetime.timedelta(days=14))
+        printed = run("plan", self.ward, "check")[1]
+        self.assertNotIn("count anew", printed)
+        self.assertIn("2026-12-09 is not in this plan, so the row counts for no week", printed)
+
+    def test_a_shift_type_with_another_name(self):
+        # Chen has Night on the last Sunday.
+        self.end_period()
+        self.write_next(MONDAY + datetime.timedelta(days=14))
+        for sheet in ("shifts", "needs"):
+            self.rows[sheet] = [
+                ["Nacht" if cell == "Night" else cell for cell in row] for row in self.rows[sheet]
+            ]
+        for row in self.rows["nurses"]:
+            row[3:8] = [cell.replace("Night", "Nacht") for cell in row[3:8]]
+        self.write()
+        says = (
+            "inrc2pb-plan: Chen had Night on the Sunday before the plan, and the spreadsheet has no"
+            " such shift type: keep its old name\n"
+        )
+        for verb in ("check", "plan"):
+            self.assertEqual(run("plan", self.ward, verb), (1, "", says))
+
+
+class NewNames(PeriodTest):
+    """Chen, who has Night on Friday, Saturday and Sunday of each week, is Chen Wu from now on."""
+
+    SAYS = (
+        "warning: sheet nurses: the last plan does not have Chen Wu, and here is no row for Chen:"
+        " if one of them has another name now, write the old one into the column was, so that her"
+        " past is known\n"
+    )
+
+    def rename(self, older=""):
+        """Writes the new name into the sheets, and the older one into the column was."""
+        for row in (*self.rows["nurses"], *self.rows["plan"]):
+            row[0] = "Chen Wu" if row[0] == "Chen" else row[0]
+        for row in self.rows["nurses"]:
+            row[11:] = ["was" if row[0] == "nurse" else older if row[0] == "Chen Wu" else ""]
+        self.write()
+
+    def test_in_the_next_period(self):
+        self.end_period()
+        self.write_next(MONDAY + datetime.timedelta(days=14))
+        self.rename()
+        printed = run("plan", self.ward, "check")[1]
+        self.assertIn(self.SAYS, printed)
+        self.assertNotIn("Night on Sunday", printed)
+        for older in ("Chen", "chen", "Chen Li, Chen"):
+            self.rename(older)
+            printed = run("plan", self.ward, "check")[1]
+            self.assertNotIn("another name", printed)
+            self.assertIn("Night on Sunday: Chen Wu for 3 days", printed)
+
+    def test_within_a_period(self):
+        self.does("over")
+        self.rename()
+        status, _, said = run("plan", self.ward, "check")
+        self.assertEqual(status, 1)
+        self.assertIn("or, if she has another name now, the old one into the column was", said)
+        self.rename("Chen")
+        self.does("over")
+        self.write_next(MONDAY + datetime.timedelta(days=14))
+        self.rename("Chen")
+        history = self.verbs().current().past.nurses["Chen_Wu"]
+        self.assertEqual((history.last_shift, history.consecutive_shifts), ("Night", 3))
+
+    def test_before_a_week_is_over(self):
+        self.does("set", "Chen", "Mon", "off", "she asked", "--do")
+        self.rename()
+        self.assertIn(self.SAYS, run("plan", self.ward, "check")[1])
+        self.rename("Chen")
+        self.does("page")
+        state = read_state(self.last())
+        self.assertEqual(state.set_days, (SetDay("Chen_Wu", 0, "she asked"),))
+        self.assertEqual(
+            {cell.nurse for cell in state.cells},
+            {cell.nurse for cell in TWO_WEEKS} ^ {"Chen", "Chen_Wu"},
+        )
+
+    def test_days_away_that_verbs_have_written(self):
+        state = read_state(self.last())
+        away = replace(state, absences=with_days(state.absences, "Chen", [1], "leave"))
+        plan = continued(read_sheet(self.ward, None, ()), away)
+        now = datetime.datetime(2026, 11, 29, 12, 0)
+        WardFolder(self.ward).add("leave", plan_texts(plan, plan.state.record("leave", now)), now)
+        self.rename("Chen")
+        self.assertIn("Chen Wu on Tue 1 Dec", run("plan", self.ward, "check")[1])
+
+    def test_sums_of_all_periods(self):
+        self.end_period()
+        self.write_next(MONDAY + datetime.timedelta(days=14))
+        self.rename("Chen")
+        self.plan_next(
+            cell._replace(nurse="Chen_Wu" if cell.nurse == "Chen" else cell.nurse)
+            for cell in TWO_WEEKS
+        )
+        self.does("page")
+        self.assertEqual(self.sums("roster.html")["Chen Wu"][5:], ["20", "173", "12", "4", "0/1"])
 
 
 if __name__ == "__main__":

@@ -1,30 +1,29 @@
-"""Tests of events and outcomes as values: what a question shows is not written, and no status is read from words."""
+"""Tests of events and outcomes as values: what a question shows is not written, and no status is
+read from words."""
 
 import contextlib
+import sys
 import unittest
 from test_kept_plans import KeptTest
 from test_plans import DATES
 from unittest import mock
 
-from inrc2pb.commands.plan import read_sheet
+from inrc2pb.sheets.ward import read_sheet
 from inrc2pb.judging.leave import credited
 from inrc2pb.judging.limits import read_given
-from inrc2pb.plans import pages, render, search_sentences, sentences, swap_sentences, verbs
-from inrc2pb.plans.outcome import (
-    Away,
-    Checked,
-    Event,
-    Offers,
-    Published,
-    Status,
-    Swapped,
-    Undone,
-    WeekOver,
-)
-from inrc2pb.plans.state import BACK, DayWord
+from inrc2pb.plans.absence import Away
+from inrc2pb.plans.offers import Offers
+from inrc2pb.plans.verb import Event, Status
+from inrc2pb.plans.verbs.check import Checked
+from inrc2pb.plans.verbs.over import WeekOver
+from inrc2pb.plans.verbs.page import Published
+from inrc2pb.plans.verbs.swap import Swapped
+from inrc2pb.plans.verbs.undo import Undone
+from inrc2pb.sheets.written_days import BACK, DayWord
 from inrc2pb.plans.store import Means
-from inrc2pb.plans.swaps import Kind, Swap
-from inrc2pb.plans.verbs import Verbs
+from inrc2pb.plans.swaps import Swap
+from inrc2pb.judging.obstacles import Obstacle
+from inrc2pb.plans.table import Verbs
 from inrc2pb.plans.ward_folder import WardFolder
 from inrc2pb.programs.progress import Progress
 from inrc2pb.week.facts import read_reasons
@@ -47,7 +46,8 @@ class Records(KeptTest):
             read_sheet(self.ward, None, written),
             read_sheet(self.ward, None, ()).with_absences(written),
         ):
-            texts, scenario = ward.texts, read_scenario("ward.txt", ward.texts["ward.txt"])
+            texts = ward.texts
+            scenario = read_scenario("ward.txt", ward.texts["ward.txt"])
             self.assertEqual(ward.scenario, scenario)
             self.assertEqual(
                 credited(ward.past, ward.counted),
@@ -74,9 +74,7 @@ class Records(KeptTest):
 class Outcomes(KeptTest):
     def setUp(self):
         super().setUp()
-        self.verbs = Verbs(
-            WardFolder(self.ward), Means(read_sheet, Progress(None), lambda line: None)
-        )
+        self.verbs = Verbs(WardFolder(self.ward), Means(Progress(None), lambda line: None))
 
     def asked(self, verb, *words, **options):
         return self.verbs.asked(Event(verb, words, **options))
@@ -132,15 +130,14 @@ class Outcomes(KeptTest):
         self.rows["plan"][7][1] = "Day"
         self.rows["plan"][1][2] = "ill"
         self.write()
-        held, follows, never, away, skill = (
-            Kind.HELD,
-            Kind.FOLLOWS,
-            Kind.NEVER,
-            Kind.AWAY,
-            Kind.SKILL,
-        )
+        held = Obstacle.HELD
+        follows = Obstacle.FOLLOWS
+        never = Obstacle.NEVER
+        away = Obstacle.AWAY
+        skill = Obstacle.SKILL
         for words, swap, faults in (
-            # The sheet fixes Grace's Monday. Dilek's Night is followed by no Day, and Grace works Day on Tuesday.
+            # The sheet fixes Grace's Monday. Dilek's Night is followed by no Day, and Grace works
+            # Day on Tuesday.
             (
                 "Grace Mon Dilek",
                 Swap("Grace", "Dilek", (0,)),
@@ -178,11 +175,16 @@ class Outcomes(KeptTest):
         )
         statuses = [Status.NOT_KEPT, Status.NOT_KEPT, Status.DONE, Status.DONE, Status.DONE]
         with contextlib.ExitStack() as silent:
-            for module in (sentences, search_sentences, swap_sentences, render, pages, verbs):
-                for name in dir(module):
-                    if name.endswith("_lines"):
-                        silent.enter_context(mock.patch.object(module, name, return_value=[]))
+            for module in sys.modules.copy():
+                if module.startswith("inrc2pb.plans."):
+                    self.silence(silent, sys.modules[module])
             self.assertEqual([self.verbs.done(event).status for event in events], statuses)
+
+    def silence(self, silent, module):
+        """No function of a module that makes lines has any."""
+        for name in dir(module):
+            if name.endswith("_lines"):
+                silent.enter_context(mock.patch.object(module, name, return_value=[]))
 
     def test_the_status_of_check(self):
         self.assertEqual(type(self.verbs.done(Event("check"))), Checked)

@@ -3,13 +3,20 @@
 import fcntl
 import re
 import unittest
+from unittest import mock
 from urllib.parse import urlencode
 
 from served_page import ServedPage
 from test_plans import DATES
 from ward import run
 
-SAYS = '<pre role="alert" class="fault">this form was shown for an older plan, so nothing was written by it: look at the plan below'
+from inrc2pb.plans import planning
+from inrc2pb.plans.searching import Found
+
+SAYS = (
+    '<pre role="alert" class="fault">this form was shown for an older plan, so nothing was written'
+    " by it: look at the plan below"
+)
 BUSY = "another verb was running, so this button did nothing"
 
 
@@ -26,10 +33,6 @@ def fields_of(page, button):
 
 
 class Stamps(ServedPage):
-    def plans(self):
-        """The numbers of the plans that hold, one after another."""
-        return sorted(path.name[:4] for path in (self.ward / "plans").glob("0*"))
-
     def test_forms_that_write_have_the_stamp(self):
         self.assertEqual(fields_of(self.asks()[1], "Undo")["stamp"], "none")
         self.write_plan()
@@ -69,7 +72,8 @@ class Stamps(ServedPage):
 
     def test_each_tab_shows_what_became_of_its_own_form(self):
         self.write_plan()
-        first, second = self.answers("over"), self.answers("undo")
+        first = self.answers("over")
+        second = self.answers("undo")
         with open(self.ward / "plans" / "lock", "w") as lock:
             fcntl.flock(lock, fcntl.LOCK_EX)
             self.asks("POST", form=first)
@@ -160,7 +164,8 @@ class Stamps(ServedPage):
             and "Yes, write it" not in page
             and 'class="fault"' not in page
         )
-        # The answer that is sent again writes nothing, and another tab still shows the result of the first one.
+        # The answer that is sent again writes nothing, and another tab still shows the result of
+        # the first one.
         self.asks("POST", form=answer)
         self.assertIn(SAYS, self.ended())
         self.assertIn("week 1 (calendar week 49) is over", self.asks(path=self.site.path)[1])
@@ -203,6 +208,95 @@ class Stamps(ServedPage):
         self.asks("POST", form=f"{looked}&other={other}&stamp=old")
         self.jobs.wait()
         self.assertEqual(fields_of(self.asks()[1], "Write this swap")["stamp"], self.stamp)
+
+
+class Answers(ServedPage):
+    """What was said is shown as long as it holds."""
+
+    def setUp(self):
+        super().setUp()
+        self.write_plan()
+
+    def test_an_answer_is_not_shown_above_a_plan_that_was_written_elsewhere(self):
+        page = self.sends(verb="over", corrections="")
+        says = "week 1 (calendar week 49) is over"
+        self.assertRegex(page, "<p>Asked on this page: over \\(on the page\\), [0-9: -]+</p>")
+        self.assertTrue(says in page and "Take it back" in page)
+        self.assertRegex(page, "Last written: over \\(on the page\\), [0-9: -]+\\. <a ")
+        self.assertEqual(run("plan", self.ward, "undo")[0], 0)
+        page = self.asks()[1]
+        self.assertFalse(says in page or "Asked on this page" in page or "Take it back" in page)
+        self.assertIn("Last written: plan, 2026-11-28 12:00. <a ", page)
+        self.assertEqual(run("plan", self.ward, "page")[0], 0)
+        self.assertRegex(self.asks()[1], "Last written: page, [0-9: -]+, at a terminal\\. <a ")
+
+    def test_what_was_written_is_told_until_another_plan_holds(self):
+        says = "week 1 (calendar week 49) is over"
+        self.assertIn(says, self.sends(verb="over", corrections=""))
+        self.save()
+        self.assertIn(says, self.asks()[1])
+
+    def test_what_was_read_is_told_until_the_spreadsheet_is_saved(self):
+        says = "7 nurses, "
+        self.assertIn(says, self.sends(verb="check"))
+        self.assertIn(says, self.asks()[1])
+        self.save()
+        self.assertNotIn(says, self.asks()[1])
+
+    def save(self):
+        """Saves the spreadsheet with another wish."""
+        self.rows["plan"][7].append("")
+        self.rows["plan"][7][13] = "" if self.rows["plan"][7][13] else "wish"
+        self.write()
+
+    def searched(self, old, _asked, _progress):
+        """A plan without the shift of Grace on Friday."""
+        self.searches += 1
+        return Found(old.with_cells(cell for cell in old.cells if cell[:2] != ("Grace", 4)))
+
+    def test_a_plan_that_was_found_before_the_spreadsheet_was_saved_is_asked_about_again(self):
+        form = urlencode({"verb": "away", "reason": "ill", "nurse": "Grace", "first": DATES[4]})
+        self.searches = 0
+        with mock.patch.object(planning, "search_plan", self.searched):
+            self.asks("POST", form=form)
+            found = fields_of(self.ended(), "Yes, write it")
+            self.save()
+            # Nothing is asked any more that would not be written.
+            page = self.asks()[1]
+            self.assertIn("the spreadsheet was saved since this plan was found", page)
+            self.assertNotIn("Yes, write it", page)
+            # An older page still asks.
+            for _ in range(2):
+                self.asks("POST", form=urlencode(found))
+                again = fields_of(self.ended(), "Yes, write it")
+            self.assertEqual((self.plans(), self.searches), (["0001"], 3))
+            self.asks("POST", form=urlencode(again))
+            self.assertIn("Take it back", self.ended())
+        self.assertEqual((self.plans(), self.searches), (["0001", "0002"], 3))
+
+    def test_a_search_that_waits_while_the_spreadsheet_is_saved_asks_again(self):
+        form = urlencode({"verb": "away", "reason": "ill", "nurse": "Grace", "first": DATES[4]})
+        self.searches = 0
+        with mock.patch.object(planning, "search_plan", self.searched):
+            self.asks("POST", form=form)
+            found = fields_of(self.ended(), "Yes, write it")
+            with open(self.ward / "plans" / "lock", "w") as lock:
+                fcntl.flock(lock, fcntl.LOCK_EX)
+                self.asks("POST", form=urlencode(found))
+                self.save()
+                fcntl.flock(lock, fcntl.LOCK_UN)
+            self.assertIn("Yes, write it", self.ended())
+        self.assertEqual((self.plans(), self.searches), (["0001"], 2))
+
+    def test_a_price_that_was_asked_before_the_spreadsheet_was_saved_is_asked_again(self):
+        form = urlencode({"verb": "set", "nurse": "Grace", "first": DATES[4], "shift": "off"})
+        asked = self.asks("POST", form=form)[1]
+        self.save()
+        status, page = self.asks("POST", form=urlencode(fields_of(asked, "Yes, write it")))
+        self.assertEqual((status, "Yes, write it" in page, self.plans()), (200, True, ["0001"]))
+        self.asks("POST", form=urlencode(fields_of(page, "Yes, write it")))
+        self.ended()
+        self.assertEqual(self.plans(), ["0001", "0002"])
 
 
 if __name__ == "__main__":

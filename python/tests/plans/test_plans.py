@@ -1,4 +1,5 @@
-"""Tests of `inrc2pb-plan` and of the plans of a ward's folder, on the example of `new` with two weeks."""
+"""Tests of `inrc2pb-plan` and of the plans of a ward's folder, on the example of `new` with two
+weeks."""
 
 import csv
 import datetime
@@ -12,10 +13,10 @@ from dataclasses import replace
 from unittest import mock
 from ward import ENOUGH, HAS_CBC, HELPERS, ROSTER, HelperTest, files, program, run
 
-from inrc2pb.commands.plan import read_sheet
-from inrc2pb.plans import verbs
+from inrc2pb.sheets.ward import read_sheet
+from inrc2pb.plans import planning
 from inrc2pb.plans.changes import with_few_changes, with_old_skills
-from inrc2pb.plans.local_server import LocalServer
+from inrc2pb.page.server import LocalServer
 from inrc2pb.plans.store import plan_texts
 from inrc2pb.plans.swaps import Swap, Swaps
 from inrc2pb.plans.ward import first_plan
@@ -37,7 +38,8 @@ TWO_WEEKS = [
 ]
 # The files of the plan with which tests begin.
 FIRST_PLAN = {}
-DATED, BARE = PlanDays(MONDAY, 2), PlanDays(None, 2)
+DATED = PlanDays(MONDAY, 2)
+BARE = PlanDays(None, 2)
 
 
 class Days(unittest.TestCase):
@@ -123,6 +125,18 @@ class Words(unittest.TestCase):
                     Wording([*text.split(), "Fri"], names, DATED, 0, "ill Anna Fri").nurse(), nurse
                 )
 
+    def test_a_name_that_another_one_begins_with(self):
+        for line, nurse, day in (
+            ("Anna Maria Fri", "Anna_Maria", 4),
+            ("anna ma Fri", "Anna_Maria", 4),
+            ("Anna Fri", "Anna", 4),
+            ("Anna Maria, Fri", "Anna_Maria", 4),
+        ):
+            with self.subTest(line):
+                words = Wording(line.split(), ("Anna", "Anna_Maria"), DATED, 0, "ill Anna Fri")
+                self.assertEqual((words.nurse(), words.day()), (nurse, day))
+                words.end()
+
     def test_a_nurse_with_the_name_of_a_month(self):
         words = Wording(
             "Mon 2 Jan Li".split(), (*self.NURSES, "Jan_Li"), DATED, 0, "swap Sun Li Mon Jan"
@@ -138,7 +152,10 @@ class Words(unittest.TestCase):
             ("Sun Li Fri soon", "'soon' is a word too many: write, for example, ill Anna Fri"),
             (
                 "sun_li soon",
-                "'soon' is no day: write a day such as 2026-11-30, or Fri for the next Friday of the plan",
+                (
+                    "'soon' is no day: write a day such as 2026-11-30, or Fri for the next Friday"
+                    " of the plan"
+                ),
             ),
         ):
             with self.subTest(line), self.assertRaises(Misuse) as caught:
@@ -151,14 +168,18 @@ class Words(unittest.TestCase):
             self.wording("2026-12-01", first=7).open_day()
         self.assertEqual(
             str(caught.exception),
-            "Tue 1 Dec is in a week that is over: the plan goes on from Mon 7 Dec; undo takes the end of that week back",
+            (
+                "Tue 1 Dec is in a week that is over: the plan goes on from Mon 7 Dec; undo takes"
+                " the end of that week back"
+            ),
         )
 
 
 class Values(HelperTest):
     def test_few_changes_are_requests_against_all_other_shifts(self):
         scenario = files.read_scenario(HELPERS.parent / "examples" / "ward" / "ward.txt")
-        data, old = WeekData("ward", {}, ()), [Cell("Chen", 4, "Late", "Nurse")]
+        data = WeekData("ward", {}, ())
+        old = [Cell("Chen", 4, "Late", "Nurse")]
         asked = [
             one
             for one in with_few_changes(scenario, data, old, [4]).requests
@@ -212,9 +233,10 @@ class FolderTest(HelperTest):
         return printed
 
     def runs(self, *words):
-        """The status of the verb, and what it prints. Its search has time enough, and a second to make the plan more even."""
+        """The status of the verb, and what it prints. Its search has time enough, and a second to
+        make the plan more even."""
         searches = words[0] in ("plan", "ill", "leave", "away", "training", "back")
-        with mock.patch.object(verbs, "EVENING_SHARE", 1 / ENOUGH):
+        with mock.patch.object(planning, "EVENING_SHARE", 1 / ENOUGH):
             return run("plan", self.ward, *words, *(("--time", ENOUGH) if searches else ()))
 
     def begin(self):
@@ -254,13 +276,12 @@ class FolderTest(HelperTest):
 
     def points(self):
         """The penalties of the weeks of the plan that holds, by `extend`."""
-        last, found = self.last(), []
+        last = self.last()
+        found = []
         history = last / "history-0.txt"
         for number in range(2):
-            roster, target = (
-                last / f"roster-{number}.txt",
-                self.folder / f"history-{number + 1}.txt",
-            )
+            roster = last / f"roster-{number}.txt"
+            target = self.folder / f"history-{number + 1}.txt"
             found.append(
                 program.penalty_of(
                     program.WeekFiles(last / "ward.txt", history, last / f"week-{number}.txt"),
@@ -301,7 +322,8 @@ class FolderTest(HelperTest):
 class Verbs(FolderTest):
     def test_a_plan_an_illness_and_the_way_back(self):
         self.begin()
-        before, old = self.cells(), self.texts()
+        before = self.cells()
+        old = self.texts()
         status, printed, said = self.runs("ill", "Gra", "Wed", "Fri")
         self.assertEqual(status, 0, said)
         # It speaks in points, and says that those of the search are not those of the plan.
@@ -315,7 +337,8 @@ class Verbs(FolderTest):
             [item for item in now.items() if item[0][1] < 2],
         )
         self.assertIn(f"2 weeks: {sum(self.points())} points\n", printed)
-        # The last penalty of the search has also the new shifts, those on days off beside the illness, and the calls, as the bound has.
+        # The last penalty of the search has also the new shifts, those on days off beside the
+        # illness, and the calls, as the bound has.
         other = {key for key in {*before, *now} if before.get(key, "-")[0] != now.get(key, "-")[0]}
         beside = {("Grace", day) for day in (0, 1, 5, 6)} - set(before)
         called = {
@@ -348,7 +371,10 @@ class Verbs(FolderTest):
         printed = self.does("plan")
         first, second = self.points()
         self.assertLessEqual(first + second, before)
-        weeks = f"week 1 (calendar week 49): {first} points\nweek 2 (calendar week 50): {second} points\n"
+        weeks = (
+            f"week 1 (calendar week 49): {first} points\nweek 2 (calendar week 50):"
+            f" {second} points\n"
+        )
         self.assertIn(f"{weeks}2 weeks: {first + second} points\n", printed)
 
     def test_a_plan_that_hangs_on_the_wall_changes_little(self):
@@ -369,7 +395,8 @@ class Verbs(FolderTest):
             f"DTSTART:{begins}T223000\nDTEND:{ends}T071500\n",
             (self.ward / "calendars" / f"{nurse}.ics").read_text(),
         )
-        before, points = self.cells(), sum(self.points())
+        before = self.cells()
+        points = sum(self.points())
         self.does("plan")
         now = self.cells()
         changed = {
@@ -390,12 +417,14 @@ class Verbs(FolderTest):
                 for event in text.split("BEGIN:VEVENT")[1:]
             }
 
-        date, before = DATES[day].replace("-", ""), events()
+        date = DATES[day].replace("-", "")
+        before = events()
         self.does("ill", nurse, DATES[day])
         now = events()
         self.assertIn("STATUS:CANCELLED\n", now[date])
         self.assertNotIn("STATUS", before[date])
-        uid, number = ("UID:(.*)", "SEQUENCE:([0-9]+)")
+        uid = "UID:(.*)"
+        number = "SEQUENCE:([0-9]+)"
         self.assertEqual(*(re.search(uid, one[date])[1] for one in (before, now)))
         self.assertLessEqual(*(int(re.search(number, one[date])[1]) for one in (before, now)))
 
@@ -405,7 +434,10 @@ class Verbs(FolderTest):
         self.write()
         status, printed, said = self.runs("plan")
         self.assertEqual(status, 5, said)
-        says = "Lower these by 1 in all; no roster can do with less:\nSat 5 Dec Day Charge: lower 4 to 3\n$"
+        says = (
+            "Lower these by 1 in all; no roster can do with less:\nSat 5 Dec Day Charge: lower 4 to"
+            " 3\n$"
+        )
         self.assertRegex(printed, f"^week 1 \\(calendar week 49\\): No roster .* {says}")
         self.assertFalse(list((self.ward / "plans").glob("0*")))
 
@@ -420,24 +452,32 @@ class Verbs(FolderTest):
         nurses = {nurse for nurse, day in self.cells() if day >= 7}
         self.assertNotIn("Dilek", nurses)
         self.assertFalse({nurse for nurse, day in self.cells() if nurse == "Ida" and day < 7})
-        # She has the shifts of her contract, 8 in 14 days, though each change of the plan on the wall costs points.
+        # She has the shifts of her contract, 8 in 14 days, though each change of the plan on the
+        # wall costs points.
         self.assertGreaterEqual(sum(nurse == "Ida" for nurse, _ in self.cells()), 4)
         self.does("over")
         del self.rows["nurses"][4], self.rows["plan"][4]
         self.write()
         status, _, said = self.runs("plan")
-        cure = "write it again, with away in the plan from her last day on"
+        cure = (
+            "write it again, with away in the plan from her last day on, or, if she has another"
+            " name now, the old one into the column was of her row"
+        )
         self.assertEqual(
             (status, said),
             (
                 1,
-                f"inrc2pb-plan: Dilek worked in week 1 (calendar week 49), and has no row in the sheet nurses: {cure}\n",
+                (
+                    "inrc2pb-plan: Dilek worked in week 1 (calendar week 49), and has no row in"
+                    f" the sheet nurses: {cure}\n"
+                ),
             ),
         )
 
     def test_swaps(self):
         self.begin()
-        cells, before = self.cells(), sum(self.points())
+        cells = self.cells()
+        before = sum(self.points())
         offers = []
         for nurse, day in sorted(cells):
             printed = self.does("swap", nurse, DATES[day])
@@ -458,7 +498,8 @@ class Verbs(FolderTest):
     def test_what_a_swap_costs_in_words(self):
         self.write_plan()
         before = sum(self.points())
-        # Chen was off on the Sunday before, and is off on Tuesday; both have 10 shifts of at least 17.
+        # Chen was off on the Sunday before, and is off on Tuesday; both have 10 shifts of at least
+        # 17.
         self.assertIn("\n".join([
             " -140  Chen: 10 shifts in the period (5 before Mon 7 Dec), at least 17",
             " -140  Grace: 10 shifts in the period (5 before Mon 7 Dec), at least 17",
@@ -519,7 +560,10 @@ class Verbs(FolderTest):
         self.assertEqual((status, self.cells()), (6, cells))
         self.assertRegex(
             printed,
-            "^not possible: Finn never works Night\n(not possible: .*\n)?nothing is written\nwho could take ",
+            (
+                "^not possible: Finn never works Night\n(not possible: .*\n)?nothing is"
+                " written\nwho could take "
+            ),
         )
 
     def test_the_weeks_and_the_period_are_over(self):
@@ -532,7 +576,10 @@ class Verbs(FolderTest):
             " None ", next(line for line in history.splitlines() if line.startswith(worked))
         )
         status, _, said = run("plan", self.ward, "ill", "Chen", "2026-12-01")
-        line = "Tue 1 Dec is in a week that is over: the plan goes on from Mon 7 Dec; undo takes the end of that week back"
+        line = (
+            "Tue 1 Dec is in a week that is over: the plan goes on from Mon 7 Dec; undo takes the"
+            " end of that week back"
+        )
         self.assertEqual((status, said), (1, f"inrc2pb-plan: {line}\n"))
         self.assertIn(
             "week 2 (calendar week 50) is over, and with it the period is over\n", self.does("over")
@@ -580,7 +627,10 @@ class Refused(FolderTest):
         printed = self.does("check")
         self.assertIn("After Late, the next day no Day.\n", printed)
         self.assertIn(
-            "Would rather be off: Amara on Wed 9 Dec; Chen on Sat 5 Dec; Dilek on Fri 4 Dec; Ewa on Sun 6 Dec.\n",
+            (
+                "Would rather be off: Amara on Wed 9 Dec; Chen on Sat 5 Dec; Dilek on Fri 4 Dec;"
+                " Ewa on Sun 6 Dec.\n"
+            ),
             printed,
         )
         # The kind of each absence, and days away that count as work.
@@ -610,9 +660,11 @@ class Refused(FolderTest):
         self.assertFalse((self.ward / "plans").exists())
 
     def test_what_is_told_first(self):
-        # Both weeks have 7 + 12 + 7 + 7 shifts at best; 7 + 5 + 7 + 7 are needed. Five nurses have 8 to 12 shifts, two 4 to 6. Grace
-        # has leave on the seven days of the second week, which count as five of her shifts. A plan changes nothing of it.
-        self.rows["contracts"][1][1:3], self.rows["contracts"][2][1:3] = ["8", "12"], ["4", "6"]
+        # Both weeks have 7 + 12 + 7 + 7 shifts at best; 7 + 5 + 7 + 7 are needed. Five nurses have
+        # 8 to 12 shifts, two 4 to 6. Grace has leave on the seven days of the second week, which
+        # count as five of her shifts. A plan changes nothing of it.
+        self.rows["contracts"][1][1:3] = ["8", "12"]
+        self.rows["contracts"][2][1:3] = ["4", "6"]
         self.rows["plan"][7][8:15] = ["leave"] * 7
         del self.rows["plan"][2]
         self.write()
@@ -630,7 +682,8 @@ class Refused(FolderTest):
             ])  # fmt: skip
 
     def test_a_ward_without_a_mistake(self):
-        self.rows["contracts"][1][1:3], self.rows["contracts"][2][1:3] = ["8", "12"], ["4", "6"]
+        self.rows["contracts"][1][1:3] = ["8", "12"]
+        self.rows["contracts"][2][1:3] = ["4", "6"]
         self.write()
         self.assertEqual(self.does("check").splitlines()[:2], ["No mistake found.", ""])
 
@@ -665,11 +718,14 @@ class Refused(FolderTest):
         for says, *words in (
             ("'plna' is no verb: did you mean plan?", "plna"),
             (
-                "'sick' is no verb: write one of new, check, plan, ill, back, swap, set, over, page, undo, serve, files, away, leave, unpaid, training\n",
+                (
+                    "'sick' is no verb: write one of new, check, plan, ill, back, swap, set, over,"
+                    " page, undo, serve, files, away, leave, unpaid, training\n"
+                ),
                 "sick",
             ),
             ("a verb is missing after the folder: write one of new, check, plan, ",),
-            ("'Chen' is a word too many: page has none", "page", "Chen"),
+            ("'Chen' is a word too many: undo has none", "undo", "Chen"),
             (
                 "--do is for verbs that ask before they write: leave it out with page",
                 "page",
@@ -677,15 +733,31 @@ class Refused(FolderTest):
             ),
             ("--free is for plan: leave it out", "page", "--free"),
             ("--time has to be a number of seconds above 0", "plan", "--time", "0"),
+            *(
+                (
+                    "--time is for verbs that search, such as plan and ill: leave it out with"
+                    f" {verb}\n",
+                    verb,
+                    "--time",
+                    "10",
+                )
+                for verb in ("new", "check", "swap", "over", "page", "undo", "files")
+            ),
             ("--port 70000: give a number from 1024 to 65535", "serve", "--port", "70000"),
             (
-                "--port 0: Cannot assign requested address: give the name of this machine, and a free port",
+                (
+                    "--port 0: Cannot assign requested address: give the name of this machine, and"
+                    " a free port"
+                ),
                 "serve",
                 "--host",
                 "203.0.113.1",
             ),
             (
-                "--host '0.0.0.0' is no address that a browser can open: give the name or number of this machine, or with --origin the address",
+                (
+                    "--host '0.0.0.0' is no address that a browser can open: give the name or"
+                    " number of this machine, or with --origin the address"
+                ),
                 "serve",
                 "--host",
                 "0.0.0.0",
@@ -694,7 +766,10 @@ class Refused(FolderTest):
             ("--host '0' is no address", "serve", "--host", "0"),
             ("--host '::' is no address", "serve", "--host", "::"),
             (
-                "--origin 'ward.example': give the beginning of an address, as https://ward.example",
+                (
+                    "--origin 'ward.example': give the beginning of an address, as"
+                    " https://ward.example"
+                ),
                 "serve",
                 "--origin",
                 "ward.example",
@@ -727,7 +802,10 @@ class Refused(FolderTest):
                 self.assertFalse(list((self.ward / "plans").glob("0*")))
 
     def test_a_page_beyond_this_machine_is_told_to_be_in_clear_text(self):
-        says = "in clear text: who reads your network reads this address and the roster, and can change it: let a proxy with TLS on this machine "
+        says = (
+            "in clear text: who reads your network reads this address and the roster, and can"
+            " change it: let a proxy with TLS on this machine "
+        )
         for words, begin, is_told in (
             ((), "http://127.0.0.1:", False),
             (("--host", "localhost"), "http://localhost:", False),
@@ -756,7 +834,10 @@ class Refused(FolderTest):
         path = self.last() / "plan.json"
         text = path.read_text().replace('"verb": "plan"', '"verb": "ill Müller"')
         path.write_bytes(text.encode("cp1252"))
-        says = "plan.json line 2: this line has a byte that is no UTF-8, as another program has saved it: correct it, or type undo to go back"
+        says = (
+            "plan.json line 2: this line has a byte that is no UTF-8, as another program has saved"
+            " it: correct it, or type undo to go back"
+        )
         for verb in ("check", "plan", "page"):
             self.assert_refused(says, self.ward, verb)
         self.assertIn("the plan of plan, 2026-11-28 12:00 holds again", self.does("undo"))
@@ -800,7 +881,10 @@ class Refused(FolderTest):
             (
                 '"verb"',
                 '"verbs"',
-                "this file was changed: it has not the names verb, time, monday, weeks, weeks over, ",
+                (
+                    "this file was changed: it has not the names verb, time, monday, weeks, weeks"
+                    " over, "
+                ),
             ),
             ("{", "[", "is no JSON any more"),
             ("{", "{" + " " * 1_000_000, "the file has more than 1000000 bytes"),
@@ -823,7 +907,10 @@ class Refused(FolderTest):
         self.assertEqual(status, 1)
         self.assertRegex(
             said,
-            "row 3, column E: Late: '' has no times: .*\n.*row 4, column E: Night: 25:00 is no time of a day",
+            (
+                "row 3, column E: Late: '' has no times: .*\n.*row 4, column E: Night: 25:00 is no"
+                " time of a day"
+            ),
         )
 
     def test_a_folder_without_quotes(self):

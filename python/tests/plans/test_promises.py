@@ -1,5 +1,5 @@
-"""Tests of promises: what `set` has promised stays in swaps, offers and later plans, is seen on the pages, and is taken back by
-`set .. back` after whatever came between."""
+"""Tests of promises: what `set` has promised stays in swaps, offers and later plans, is seen on the
+pages, and is taken back by `set .. back` after whatever came between."""
 
 import json
 import random
@@ -10,18 +10,22 @@ from unittest import mock
 from ward import HAS_CBC, run
 from xml.etree import ElementTree
 
-from inrc2pb.commands.plan import read_sheet
-from inrc2pb.plans import events, pages, verbs
-from inrc2pb.plans.changes import without_needless_changes
+from inrc2pb.plans import pages, planning
+from inrc2pb.plans.needless_changes import without_needless_changes
 from inrc2pb.plans.exchanges import more_even
 from inrc2pb.plans.facts import broken_agreements
-from inrc2pb.plans.outcome import Asked, Event, Keep, Pages, Status
-from inrc2pb.plans.render import lines
+from inrc2pb.plans.offers import offers_of
+from inrc2pb.plans.pages import Pages
+from inrc2pb.plans.searching import Asked, Keep
+from inrc2pb.plans.verbs import set_day, swap
+from inrc2pb.plans.verb import Event, Status
 from inrc2pb.plans.searching import Found, kept_agreed
-from inrc2pb.plans.state import SetDay, read_record, read_state
+from inrc2pb.plans.state import SetDay
+from inrc2pb.plans.plan_files import read_record, read_state
 from inrc2pb.plans.store import Means, PlanStore
-from inrc2pb.plans.swaps import Kind, Swap, Swaps
-from inrc2pb.plans.verbs import Verbs
+from inrc2pb.plans.swaps import Swap, Swaps
+from inrc2pb.judging.obstacles import Obstacle
+from inrc2pb.plans.table import Verbs
 from inrc2pb.plans.ward import continued
 from inrc2pb.plans.ward_folder import WardFolder
 from inrc2pb.programs.progress import Progress
@@ -29,7 +33,8 @@ from inrc2pb.shown.page import page_text
 from inrc2pb.week.faults import Misuse
 from inrc2pb.week.records import NurseDay
 
-# Grace works Day on each weekday, Finn Late on Monday, Tuesday and from Friday on, and Chen Night from Friday on.
+# Grace works Day on each weekday, Finn Late on Monday, Tuesday and from Friday on, and Chen Night
+# from Friday on.
 FRIDAY = SetDay("Grace", 4, "her sister marries", "Day", "Nurse")
 FREE = SetDay("Grace", 5, "", "", "")
 
@@ -47,19 +52,19 @@ class Swapping(PromiseTest):
         (fault,) = [
             one
             for one in Swaps(plan).faults(Swap("Grace", "Finn", (4,)))
-            if one.kind is Kind.PROMISED
+            if one.kind is Obstacle.PROMISED
         ]
         self.assertEqual((fault.nurse, fault.day, fault.promise), ("Grace", 4, FRIDAY))
-        found = events.swap(plan, Swap("Finn", "Grace", (4,)), None, has_offers=False)
+        found = swap.judged(plan, Swap("Finn", "Grace", (4,)), None, has_offers=False)
         says = (
-            "not possible: Grace is promised Day Nurse on Fri 4 Dec (her sister marries): take that back first, with "
-            "set Grace 2026-12-04 back --do, and then swap"
+            "not possible: Grace is promised Day Nurse on Fri 4 Dec (her sister marries): take that"
+            " back first, with set Grace 2026-12-04 back --do, and then swap"
         )
         self.assertEqual(
-            (found.status, lines(found, WRITE)[:2]), (Status.NOT_KEPT, [says, "nothing is written"])
+            (found.status, found.lines(WRITE)[:2]), (Status.NOT_KEPT, [says, "nothing is written"])
         )
         self.assertEqual(
-            events.swap(self.plan, Swap("Finn", "Grace", (4,)), None, has_offers=False).status,
+            swap.judged(self.plan, Swap("Finn", "Grace", (4,)), None, has_offers=False).status,
             Status.DONE,
         )
 
@@ -67,13 +72,13 @@ class Swapping(PromiseTest):
         plan = self.promising(FREE)
         # Finn has Late on Saturday.
         self.assertIn(
-            Kind.PROMISED, [one.kind for one in Swaps(plan).faults(Swap("Grace", "Finn", (5,)))]
+            Obstacle.PROMISED, [one.kind for one in Swaps(plan).faults(Swap("Grace", "Finn", (5,)))]
         )
         self.assertEqual(
             [
                 one
                 for one in Swaps(plan).faults(Swap("Grace", "Finn", (4,)))
-                if one.kind is Kind.PROMISED
+                if one.kind is Obstacle.PROMISED
             ],
             [],
         )
@@ -111,18 +116,21 @@ class Swapping(PromiseTest):
         return (cells[0] and cells[0][2:]) != (cells[1] and cells[1][2:])
 
     def test_a_shift_that_is_promised_is_offered_to_nobody(self):
-        found = events.offers_of(Swaps(self.promising(FRIDAY)), "Grace", 4)
+        found = offers_of(Swaps(self.promising(FRIDAY)), "Grace", 4)
         self.assertEqual(found.offers, ())
-        (said,) = lines(found)
+        (said,) = found.lines()
         self.assertIn(
-            "nobody can take Grace's Day on Fri 4 Dec: Grace is promised Day Nurse on Fri 4 Dec (her sister marries): take",
+            (
+                "nobody can take Grace's Day on Fri 4 Dec: Grace is promised Day Nurse on Fri 4 Dec"
+                " (her sister marries): take"
+            ),
             said,
         )
 
     def test_who_else_could_have_a_shift_is_nobody_with_a_promise(self):
         found = self.asked("Grace", "Mon", "Late")
         self.assertEqual({one.nurse for one in found.instead}, {"Chen", "Ewa"})
-        found = events.set_day(
+        found = set_day.set_day(
             self.promising(SetDay("Chen", 0)), Event("set", ("Grace", "Mon", "Late"))
         )
         self.assertEqual({one.nurse for one in found.instead}, {"Ewa"})
@@ -130,12 +138,12 @@ class Swapping(PromiseTest):
 
 class Replacing(PromiseTest):
     def test_what_is_replaced_is_said(self):
-        found = events.set_day(
+        found = set_day.set_day(
             self.promising(FRIDAY), Event("set", ("Grace", "Fri", "off", "she", "asked"))
         )
         self.assertEqual(found.replaces, FRIDAY)
         self.assertEqual(found.new.state.set_days, (SetDay("Grace", 4, "she asked", "", ""),))
-        said = lines(found, WRITE)
+        said = found.lines(WRITE)
         self.assertEqual(
             said[0],
             "this replaces what was promised: Grace, Fri 4 Dec: Day Nurse (her sister marries)",
@@ -148,9 +156,9 @@ class Replacing(PromiseTest):
     def test_a_swap_stays_below_a_promise_of_the_same_shift(self):
         agreed = (NurseDay("Grace", 4), NurseDay("Finn", 4))
         plan = self.plan.with_state(replace(self.plan.state, agreed=agreed))
-        same = events.set_day(plan, Event("set", ("Grace", "Fri", "Day"))).new
+        same = set_day.set_day(plan, Event("set", ("Grace", "Fri", "Day"))).new
         self.assertEqual((same.state.agreed, len(same.state.kept)), (agreed, 2))
-        other = events.set_day(plan, Event("set", ("Grace", "Fri", "off"))).new
+        other = set_day.set_day(plan, Event("set", ("Grace", "Fri", "off"))).new
         self.assertEqual(other.state.agreed, agreed[1:])
 
     def test_what_there_is_to_take_back(self):
@@ -166,12 +174,15 @@ class Replacing(PromiseTest):
             ("Tue", sheet),
             (
                 "Thu",
-                "the day is kept for a swap, which the same line as that of the swap, with --do, takes back",
+                (
+                    "the day is kept for a swap, which the same line as that of the swap, with"
+                    " --do, takes back"
+                ),
             ),
             ("Fri", "set it first, or type undo"),
         ):
             with self.subTest(day), self.assertRaises(Misuse) as caught:
-                events.set_day(plan, Event("set", ("Grace", day, "back")))
+                set_day.set_day(plan, Event("set", ("Grace", day, "back")))
             self.assertRegex(
                 str(caught.exception), f"^nothing is set for Grace on {day} .*: {cure}$"
             )
@@ -179,13 +190,15 @@ class Replacing(PromiseTest):
 
 class LaterPlans(PromiseTest):
     def test_a_search_keeps_what_is_promised_and_not_what_is_planned(self):
-        # An illness has taken the promised shift of Friday, and the plan has another one on Thursday.
+        # An illness has taken the promised shift of Friday, and the plan has another one on
+        # Thursday.
         promises = FRIDAY, FREE, SetDay("Grace", 3, "", "Late", "Nurse")
         plan = self.promising(*promises)
         for how in Keep:
             kept = kept_agreed(plan, Asked(0, True, 1.0, how))
             self.assertEqual(kept, {one.place: one.cell for one in promises})
-        # What cannot be is not kept: she is away, never works it, has not the skill, or the day is before the first one.
+        # What cannot be is not kept: she is away, never works it, has not the skill, or the day is
+        # before the first one.
         self.assertEqual(set(kept_agreed(plan, Asked(4, True, 1.0))), {FRIDAY.place, FREE.place})
         self.rows["plan"][7][5] = "ill"
         self.write()
@@ -213,7 +226,8 @@ class LaterPlans(PromiseTest):
 
     def test_a_broken_promise_is_told_once_while_she_is_away_and_else_each_time(self):
         without = [cell for cell in self.plan.cells if (cell.nurse, cell.day) != ("Grace", 4)]
-        old, broken = self.promising(FRIDAY), self.promising(FRIDAY).with_cells(without)
+        old = self.promising(FRIDAY)
+        broken = self.promising(FRIDAY).with_cells(without)
         self.assertEqual(broken_agreements(old, old), [])
         self.assertEqual([one.place for one in broken_agreements(old, broken)], [FRIDAY.place])
         self.assertEqual([one.place for one in broken_agreements(broken, broken)], [FRIDAY.place])
@@ -256,7 +270,8 @@ class Seen(PromiseTest):
         self.assertEqual(self.marked(pages.roster_content(self.ward, plan)), set())
 
     def test_promises_of_the_spreadsheet_are_marked_too(self):
-        self.rows["plan"][7][6], self.rows["plan"][7][1] = "off", "Day"
+        self.rows["plan"][7][6] = "off"
+        self.rows["plan"][7][1] = "Day"
         self.write()
         content = pages.roster_content(self.ward, self.read())
         for page in (content, replace(content, only_table=True)):
@@ -290,19 +305,21 @@ def searched(old, asked, progress):
 
 
 class Sequences(PromiseTest):
-    """Verbs one after another in a random order that is always the same. `promised` has what should be promised, and `older` what was so
-    before each verb that has written something."""
+    """Verbs one after another in a random order that is always the same. `promised` has what should
+    be promised, and `older` what was so before each verb that has written something."""
 
     def setUp(self):
         super().setUp()
-        self.verbs = Verbs(
-            WardFolder(self.ward), Means(read_sheet, Progress(None), lambda line: None)
-        )
-        self.promised, self.older, self.refused = {}, [], 0
+        self.verbs = Verbs(WardFolder(self.ward), Means(Progress(None), lambda line: None))
+        self.promised = {}
+        self.older = []
+        self.refused = 0
         for where, name, made in (
-            (verbs, "search_plan", searched),
-            (verbs, "penalties", lambda plan: {}),
-            (PlanStore, "pages", lambda store, plan: Pages()),
+            (planning, "search_plan", searched),
+            (planning, "penalties", lambda plan: {}),
+            (swap, "penalties", lambda plan: {}),
+            (set_day, "penalties", lambda plan: {}),
+            (PlanStore, "pages", lambda store, *_: Pages()),
         ):
             patch = mock.patch.object(where, name, made)
             patch.start()
@@ -345,7 +362,8 @@ class Sequences(PromiseTest):
         return ("undo",) if kind == "undo" else ("plan",)
 
     def check(self, words):
-        """What is promised is in the plan, unless the nurse is away, and no swap that is offered moves it."""
+        """What is promised is in the plan, unless the nurse is away, and no swap that is offered
+        moves it."""
         plan = self.verbs.current()
         self.assertEqual(
             {place: one.cell for place, one in plan.state.promised.items()}, self.promised, words
@@ -356,7 +374,8 @@ class Sequences(PromiseTest):
 
     def does_next(self, words):
         """Does a verb, and keeps count of what should be promised."""
-        before, stack = dict(self.promised), [*self.older]
+        before = dict(self.promised)
+        stack = [*self.older]
         place = (
             NurseDay(words[1], self.plan.days.number(words[2], 0)) if words[0] == "set" else None
         )
@@ -368,10 +387,11 @@ class Sequences(PromiseTest):
             self.promised = self.older.pop()
         else:
             self.older = [*stack, before]
-            if place and outcome.takes_back:
+            if place and getattr(outcome, "takes_back", False):
                 del self.promised[place]
             elif place:
-                self.promised[place] = outcome.now
+                new = outcome.new if isinstance(outcome, set_day.DaySet) else outcome.plan
+                self.promised[place] = new.works.get(place)
         self.check(words)
 
     def test_promises_hold_and_can_be_taken_back_after_any_verbs(self):

@@ -1,5 +1,5 @@
-"""Tests of the local page as its user meets it: the roster comes first, a click on a cell opens what can be done with it, and a spreadsheet is
-read only if it has changed."""
+"""Tests of the local page as its user meets it: the roster comes first, a click on a cell opens
+what can be done with it, and a spreadsheet is read only if it has changed."""
 
 import html
 import os
@@ -8,20 +8,26 @@ import threading
 import time
 import unittest
 from html.parser import HTMLParser
+from unittest import mock
 from urllib.parse import urlencode
 
 from served_page import ServedPage
 from test_plans import DATES
 
+from inrc2pb.plans import ward_folder
 from inrc2pb.plans.kept import Kept
+from inrc2pb.sheets.sheet_files import read_book
 
 
 class Stops(HTMLParser):
-    """What the key Tab reaches on a page, one after another: `first` is the number of stops before the roster."""
+    """What the key Tab reaches on a page, one after another: `first` is the number of stops before
+    the roster."""
 
     def __init__(self, page):
         super().__init__()
-        self.stops, self.first, self._folded = [], None, []
+        self.stops = []
+        self.first = None
+        self._folded = []
         self.feed(page)
 
     def handle_starttag(self, tag, attrs):
@@ -105,14 +111,22 @@ class Roster(ServedPage):
         self.assertEqual(
             buttons["+0  Night Nurse, as now, and later plans keep it"]["shift"], "Night/Nurse"
         )
-        self.assertRegex(page, "<li>off, promised: [^<]*Night Nurse[^<]*")
+        # Nobody else has the night, so others have to move.
+        self.assertRegex(page, ">off, promised, after a search with few changes: Night Nurse on ")
         # Grace's Day is above the minimum, so she may be promised the day off.
         buttons = self.buttons(self.cell("Grace", 4))
         off = next(text for text in buttons if text.endswith("  off, promised"))
         self.assertRegex(off, r"^\+[0-9]+  off, promised$")
         self.assertEqual(
             {**buttons[off], "stamp": ""},
-            {"verb": "set", "nurse": "Grace", "first": DATES[4], "shift": "off", "stamp": ""},
+            {
+                "verb": "set",
+                "nurse": "Grace",
+                "first": DATES[4],
+                "shift": "off",
+                "stamp": "",
+                "seconds": "0",
+            },
         )
 
     def test_one_question_and_one_yes(self):
@@ -124,7 +138,9 @@ class Roster(ServedPage):
         before = self.jobs.folder.stamp
         page = html.unescape(self.asks("POST", form=urlencode(fields))[1])
         self.assertIn(
-            "<h2>A nurse has another shift: nurse Grace, day Fri 4 Dec, shift off?</h2>", page
+            "<h2>A nurse has another shift: nurse Grace, day Fri 4 Dec, shift off, and no other shift"
+            " moves?</h2>",
+            page,
         )
         self.assertIn("Grace, Fri 4 Dec: off instead of Day Nurse", page)
         self.assertRegex(page, r"\+[0-9]+  in all: [0-9]+ points instead of [0-9]+")
@@ -220,13 +236,15 @@ class Read(ServedPage):
     def setUp(self):
         super().setUp()
         self.write_plan()
-        self.number, read = 0, self.jobs._read._read
+        self.number = 0
 
         def counted(*words):
             self.number += 1
-            return read(*words)
+            return read_book(*words)
 
-        self.jobs._read._read = counted
+        patched = mock.patch.object(ward_folder, "read_book", counted)
+        patched.start()
+        self.addCleanup(patched.stop)
 
     def make_old(self):
         """A minute passes."""
@@ -273,7 +291,9 @@ class Read(ServedPage):
         self.assertIn("<table", self.asks()[1])
 
     def test_a_change_within_the_same_step_of_the_clock(self):
-        kept, path, values = Kept(), self.folder / "file", iter(range(9))
+        kept = Kept()
+        path = self.folder / "file"
+        values = iter(range(9))
         for wanted in range(3):
             path.write_text(str(wanted))
             self.assertEqual(kept.of([path], (), lambda: next(values)), wanted)

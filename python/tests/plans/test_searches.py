@@ -1,22 +1,28 @@
-"""Tests of what verbs do if a search ends without a plan: who has stopped it is not asked to wait for another one."""
+"""Tests of what verbs do if a search ends without a plan: who has stopped it is not asked to wait
+for another one."""
 
 import datetime
+import io
 import unittest
 from dataclasses import replace
 from test_kept_plans import KeptTest
 from test_plans import TWO_WEEKS
+from types import SimpleNamespace
 from unittest import mock
-from ward import run
+from ward import ENOUGH, HAS_CBC, run
 
-from inrc2pb.commands.plan import read_sheet
-from inrc2pb.plans import verbs
-from inrc2pb.plans.outcome import Event, Keep
-from inrc2pb.plans.searching import Found
+from inrc2pb.plans import planning
+from inrc2pb.plans.searching import Asked, Found, Keep, search_plan
 from inrc2pb.plans.store import Means, plan_texts
+from inrc2pb.plans.table import Verbs
+from inrc2pb.plans.verb import Event
+from inrc2pb.plans.ward import first_plan
 from inrc2pb.plans.ward_folder import WardFolder
+from inrc2pb.programs import clock
 from inrc2pb.programs.program import BROKEN_RULE, NO_ROSTER
-from inrc2pb.programs.progress import Progress
+from inrc2pb.programs.progress import Progress, WardProgress
 from inrc2pb.search.why_none import Owner, ShortPlace, Shortage
+from inrc2pb.sheets.ward import read_sheet
 from inrc2pb.week.faults import ProgramFault, Stopped
 from inrc2pb.week.records import NurseDay, Place
 
@@ -27,9 +33,10 @@ LATE = "no rosters were found in this time: give more"
 
 class WithoutPlan(KeptTest):
     def ended(self, *results, why=None):
-        """The status, output and messages of the verb plan, if its searches end so, one after another."""
-        searches = mock.patch.object(verbs, "search_plan", side_effect=results)
-        with searches, mock.patch.object(verbs, "why_no_plan", return_value=why):
+        """The status, output and messages of the verb plan, if its searches end so, one after
+        another."""
+        searches = mock.patch.object(planning, "search_plan", side_effect=results)
+        with searches, mock.patch.object(planning, "why_no_plan", return_value=why):
             return run("plan", self.ward, "plan")
 
     def agree(self):
@@ -61,7 +68,10 @@ class WithoutPlan(KeptTest):
             self.write()
             said = self.ended(Stopped(NO_ROSTER, "stopped before the first plan"))[2]
             self.assertIn(
-                f"warning: sheet needs, {weeks}: Day Charge on Wed: at least 4 are needed, and 3 nurses have the skill: ",
+                (
+                    f"warning: sheet needs, {weeks}: Day Charge on Wed: at least 4 are needed, and"
+                    " 3 nurses have the skill: "
+                ),
                 said,
             )
             of_all[5] = "4"
@@ -94,10 +104,34 @@ class WithoutPlan(KeptTest):
                 raise ProgramFault(NO_ROSTER, LATE)
             return Found(old)
 
-        with mock.patch.object(verbs, "search_plan", search):
-            means = Means(read_sheet, Progress(None), lambda line: None)
-            verbs.Verbs(WardFolder(self.ward), means).done(Event("plan"))
+        with mock.patch.object(planning, "search_plan", search):
+            means = Means(Progress(None), lambda line: None)
+            Verbs(WardFolder(self.ward), means).done(Event("plan"))
         self.assertEqual(asked, [Keep.ALL, Keep.MOST])
+
+    def test_two_searches_have_the_seconds_of_one(self):
+        self.agree()
+        passed = [0.0]
+
+        def search(old, wanted, _):
+            passed[0] += wanted.seconds
+            if wanted.agreed is Keep.ALL:
+                raise ProgramFault(NO_ROSTER, LATE)
+            return Found(old)
+
+        fake = SimpleNamespace(monotonic=lambda: passed[0])
+        # The rest of a whole plan's time makes nights and weekends more even.
+        for most, verb, *words in ((9.0, "plan"), (10.0, "ill", "Amara", "Tue")):
+            passed[0] = 0.0
+            means = Means(Progress(None), lambda line: None)
+            with (
+                self.subTest(verb),
+                mock.patch.object(planning, "search_plan", search),
+                mock.patch.object(clock, "time", fake),
+            ):
+                event = Event(verb, tuple(words), 10.0, look=True)
+                Verbs(WardFolder(self.ward), means).done(event)
+                self.assertAlmostEqual(passed[0], most)
 
     def test_why_there_is_no_plan_in_dates(self):
         owners = (Owner("Amara", True, "is away"), Owner("Bruno", False, "works Late on this day"), Owner("Ewa", True, "is away"),
@@ -114,6 +148,47 @@ class WithoutPlan(KeptTest):
             "    Chen could, if nothing else needs her",
             "    away: Amara, Ewa",
         ])  # fmt: skip
+
+
+class Heard(Progress):
+    """Keeps the bounds that a search tells."""
+
+    def __init__(self):
+        super().__init__(None)
+        self.bounds = []
+
+    def bound_rose(self, bound):
+        self.bounds.append(bound)
+
+
+class ToldBounds(KeptTest):
+    @unittest.skipUnless(HAS_CBC, "cbc is not installed")
+    def test_no_bound_is_told_that_speaks_of_other_plans_than_the_last_line(self):
+        asked = Asked(0, False, float(ENOUGH))
+        for word in ("", "leave"):
+            # Grace works from Monday to Friday, and is to be away on Saturday.
+            self.rows["plan"][7][6] = word
+            self.write()
+            heard = Heard()
+            found = search_plan(first_plan(read_sheet(self.ward, None, ())), asked, heard)
+            self.assertEqual(bool(heard.bounds), not word)
+            self.assertEqual(found.bound.beside is None, not word)
+
+    def test_points_for_changed_shifts_are_in_no_bound_that_is_told(self):
+        told = io.StringIO()
+        progress = WardProgress(told)
+        progress.counts_changes = True
+        progress.bound_rose(435)
+        progress.improved(530, "")
+        progress.counts_changes = False
+        progress.improved(440, "")
+        self.assertEqual(
+            [line.split("s  ")[1] for line in told.getvalue().splitlines()],
+            [
+                "530 points, those for changed shifts among them",
+                "440 points; at least 435 cannot be avoided",
+            ],
+        )
 
 
 if __name__ == "__main__":

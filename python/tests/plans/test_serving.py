@@ -1,4 +1,5 @@
-"""The files that docs/serving.md shows, tried: the site of nginx before a served page, and the unit of systemd."""
+"""The files that docs/serving.md shows, tried: the site of nginx before a served page, and the unit
+of systemd."""
 
 import http.client
 import os
@@ -39,7 +40,8 @@ class Proxy(ServedPage):
     def setUp(self):
         super().setUp()
         self.write_plan()
-        certificate, key = self.folder / "ward.pem", self.folder / "ward.key"
+        certificate = self.folder / "ward.pem"
+        key = self.folder / "ward.key"
         words = (
             "-x509",
             "-newkey",
@@ -75,7 +77,8 @@ class Proxy(ServedPage):
         )
         user = "user root;\n" if os.geteuid() == 0 else ""
         settings.write_text(
-            f"{user}pid {self.folder}/pid;\ndaemon off;\nevents {{}}\nhttp {{\naccess_log off;\n{rooms} {others}\n{site}}}\n"
+            f"{user}pid {self.folder}/pid;\ndaemon off;\nevents {{}}\nhttp {{\naccess_log"
+            f" off;\n{rooms} {others}\n{site}}}\n"
         )
         proxy = subprocess.Popen(
             [NGINX, "-e", str(self.log), "-p", str(self.folder), "-c", str(settings)],
@@ -96,7 +99,8 @@ class Proxy(ServedPage):
     def status(self, method="GET", path=None, body=None, **headers):
         """The status of an answer of the proxy, and where it leads."""
         context = ssl.create_default_context()
-        context.check_hostname, context.verify_mode = False, ssl.CERT_NONE
+        context.check_hostname = False
+        context.verify_mode = ssl.CERT_NONE
         connection = http.client.HTTPSConnection(
             "127.0.0.1", self.port, timeout=ENOUGH, context=context
         )

@@ -1,18 +1,19 @@
-"""Tests of days that are set: what that costs and breaks, who could do it instead, and that later plans keep them; and of days off that the
-spreadsheet promises."""
+"""Tests of days that are set: what that costs and breaks, who could do it instead, and that later
+plans keep them; and of days off that the spreadsheet promises."""
 
 import json
 import unittest
 from test_kept_plans import KeptTest
 from ward import HAS_CBC, run
 
-from inrc2pb.commands.plan import read_sheet
-from inrc2pb.plans.outcome import DaySet, Event, Status
-from inrc2pb.plans.render import lines
-from inrc2pb.plans.state import SetDay, read_record, read_state
+from inrc2pb.plans.verb import Event, Status
+from inrc2pb.plans.verbs.set_day import DaySet
+from inrc2pb.plans.state import SetDay
+from inrc2pb.plans.plan_files import read_record, read_state
 from inrc2pb.plans.store import Means
-from inrc2pb.plans.swaps import Kind, Swap, Swaps
-from inrc2pb.plans.verbs import Verbs
+from inrc2pb.plans.swaps import Swap, Swaps
+from inrc2pb.judging.obstacles import Obstacle
+from inrc2pb.plans.table import Verbs
 from inrc2pb.plans.ward_folder import WardFolder
 from inrc2pb.programs.progress import Progress
 from inrc2pb.week.faults import FileFault, Misuse
@@ -23,17 +24,18 @@ WRITE = "type it again with --do"
 
 class SetTest(KeptTest):
     def asked(self, *words, do=False):
-        verbs = Verbs(WardFolder(self.ward), Means(read_sheet, Progress(None), lambda line: None))
+        verbs = Verbs(WardFolder(self.ward), Means(Progress(None), lambda line: None))
         return verbs.asked(Event("set", words, do=do))
 
     def said(self, *words):
-        return lines(self.asked(*words), WRITE)
+        return self.asked(*words).lines(WRITE)
 
 
 class Asked(SetTest):
     def test_a_shift_and_its_price(self):
-        # Grace works Day from Monday to Friday, and 10 of at least 17 shifts. Saturday is a sixth day of work (30), of Day (15) and half a
-        # weekend (30), leaves one day off (30), and is a shift less below her minimum (20). Its place has the best number without her.
+        # Grace works Day from Monday to Friday, and 10 of at least 17 shifts. Saturday is a sixth
+        # day of work (30), of Day (15) and half a weekend (30), leaves one day off (30), and is a
+        # shift less below her minimum (20). Its place has the best number without her.
         found = self.asked("Grace", "Sat", "Day", "she", "asked", "for", "it")
         self.assertEqual(
             (type(found), found.status, found.is_written), (DaySet, Status.DONE, False)
@@ -49,11 +51,14 @@ class Asked(SetTest):
             {one for one in found.new.works.items() if one not in found.old.works.items()},
             {(found.place, found.now)},
         )
-        said = lines(found, WRITE)
+        said = found.lines(WRITE)
         self.assertIn("Grace, Sat 5 Dec: Day Nurse instead of off", said)
         self.assertIn("1 nurse to call: Grace", said)
         self.assertIn(
-            "Grace, Sat 5 Dec: Day Nurse (she asked for it): swaps and later plans keep it, until it is taken back",
+            (
+                "Grace, Sat 5 Dec: Day Nurse (she asked for it): swaps and later plans keep it,"
+                " until it is taken back"
+            ),
             said,
         )
         self.assertIn(f"nothing is written: {WRITE}", said)
@@ -61,15 +66,18 @@ class Asked(SetTest):
         self.assertEqual(now - before, 85)
 
     def test_the_price_is_the_difference_of_both_penalties(self):
-        plan, tried = self.read(), 0
+        plan = self.read()
+        tried = 0
         for nurse, day, shift in (("Bruno", 0, None), ("Grace", 0, None), ("Chen", 1, "Day"), ("Ewa", 0, "Late"), ("Amara", 12, "Late"),
                                   ("Dilek", 3, "Late"), ("Grace", 4, "Late"), ("Grace", 6, "Night")):  # fmt: skip
-            place, now = NurseDay(nurse, day), Cell(nurse, day, shift, "Nurse") if shift else None
+            place = NurseDay(nurse, day)
+            now = Cell(nurse, day, shift, "Nurse") if shift else None
             cells = [
                 *(cell for one, cell in plan.works.items() if one != place),
                 *([now] if now else []),
             ]
-            before, after = plan.view().penalty, plan.with_cells(cells).view().penalty
+            before = plan.view().penalty
+            after = plan.with_cells(cells).view().penalty
             if after is not None:
                 tried += 1
                 self.assertEqual(Swaps(plan).day_cost(place, now), after - before, place)
@@ -83,7 +91,7 @@ class Asked(SetTest):
         self.assertEqual(
             sorted(one.cost for one in found.instead), [one.cost for one in found.instead]
         )
-        said = lines(found, WRITE)
+        said = found.lines(WRITE)
         self.assertIn("Grace, Mon 30 Nov: off instead of Day Nurse", said)
         self.assertIn("other ways, and what they add to the points:", said)
         self.assertEqual(said[-1], "with the name of one of them: swap Grace 2026-11-30 NAME")
@@ -98,9 +106,9 @@ class Asked(SetTest):
     def test_a_place_below_its_minimum(self):
         # Only Dilek has Night on Monday.
         found = self.asked("Dilek", "Mon", "off")
-        self.assertEqual([(one.kind, one.number) for one in found.faults], [(Kind.MINIMUM, 1)])
+        self.assertEqual([(one.kind, one.number) for one in found.faults], [(Obstacle.MINIMUM, 1)])
         self.assertEqual(found.status, Status.NOT_KEPT)
-        said = lines(found, WRITE)
+        said = found.lines(WRITE)
         self.assertEqual(said[:2], ["not possible: Night Nurse on Mon 30 Nov needs at least 1 nurse, and without Dilek has fewer",
                                     "nothing is written"])  # fmt: skip
 
@@ -110,13 +118,13 @@ class Asked(SetTest):
         self.rows["contracts"][1][1:3] = ["8", "10!"]
         self.write()
         for words, kind, nurse in (
-            ("Grace Mon off", Kind.HELD, "Grace"),
-            ("Amara Tue Late", Kind.AWAY, "Amara"),
-            ("Finn Wed Night", Kind.NEVER, "Finn"),
+            ("Grace Mon off", Obstacle.HELD, "Grace"),
+            ("Amara Tue Late", Obstacle.AWAY, "Amara"),
+            ("Finn Wed Night", Obstacle.NEVER, "Finn"),
             # Dilek has Night on Monday.
-            ("Dilek Tue Day", Kind.FOLLOWS, "Dilek"),
+            ("Dilek Tue Day", Obstacle.FOLLOWS, "Dilek"),
             # Bruno has ten shifts.
-            ("Bruno Sat Day/Nurse", Kind.LIMIT, "Bruno"),
+            ("Bruno Sat Day/Nurse", Obstacle.LIMIT, "Bruno"),
         ):
             with self.subTest(words):
                 self.assertIn(
@@ -126,13 +134,14 @@ class Asked(SetTest):
                 self.assertEqual(self.said(*words.split())[0][:14], "not possible: ")
 
     def test_who_else_could_have_a_shift(self):
-        # Finn has Late on Friday. Amara is off then, and has Day on Saturday; Ewa comes from a night.
+        # Finn has Late on Friday. Amara is off then, and has Day on Saturday; Ewa comes from a
+        # night.
         found = self.asked("Grace", "Fri", "Late")
         self.assertEqual(
             [(one.nurse, one.swap) for one in found.instead],
             [("Finn", Swap("Grace", "Finn", (4,)))],
         )
-        *_, way, typed = lines(found, WRITE)
+        *_, way, typed = found.lines(WRITE)
         self.assertEqual(way[6:], " Grace swaps with Finn, who has Late Nurse then")
         self.assertEqual(typed, "with the name of one of them: swap Grace 2026-12-04 NAME")
         # On Monday both are off, and have no Day on Tuesday.
@@ -140,7 +149,7 @@ class Asked(SetTest):
         self.assertEqual(
             {one.nurse: one.swap for one in found.instead}, {"Chen": None, "Ewa": None}
         )
-        self.assertIn("  +25  Ewa instead of Grace", lines(found, WRITE))
+        self.assertIn("  +25  Ewa instead of Grace", found.lines(WRITE))
 
     def test_words_that_are_wrong(self):
         for words, says in (
@@ -148,7 +157,10 @@ class Asked(SetTest):
             ("Grace Mon Nigth", "'Nigth' is no shift type: did you mean Night?"),
             (
                 "Grace Mon",
-                "a shift type is missing: write, for example, set Amara Fri Day, or set Amara Fri off",
+                (
+                    "a shift type is missing: write, for example, set Amara Fri Day, or set Amara"
+                    " Fri off"
+                ),
             ),
             (
                 "Grace Mon back",
@@ -156,7 +168,10 @@ class Asked(SetTest):
             ),
             (
                 "Grace Mon back soon",
-                "'soon' is a word too many: write, for example, set Amara Fri Day, or set Amara Fri off",
+                (
+                    "'soon' is a word too many: write, for example, set Amara Fri Day, or set Amara"
+                    " Fri off"
+                ),
             ),
             (
                 "Grace 2027-02-01 Day",
@@ -170,7 +185,7 @@ class Asked(SetTest):
 
 class Written(SetTest):
     def set(self, *words):
-        return self.does("set", *words, "--do")
+        return self.does("set", *words, "--do", "--time", "0")
 
     def test_it_is_written_with_do_only_and_taken_back(self):
         before = self.last()
@@ -197,9 +212,33 @@ class Written(SetTest):
 
     def test_what_cannot_be_is_not_written(self):
         before = self.last()
-        status, printed, _ = run("plan", self.ward, "set", "Dilek", "Mon", "off", "--do")
+        status, printed, _ = run("plan", self.ward, "set", "Finn", "Wed", "Night", "--do")
         self.assertEqual((status, self.last()), (6, before))
         self.assertIn("nothing is written\n", printed)
+
+    def test_a_reason_that_no_later_verb_could_read(self):
+        # An argument of a terminal without UTF-8, and one of 600 kB.
+        before = self.texts()
+        for reason, says in (
+            (
+                "M\udcfcller",
+                (
+                    "'M\\xfcller' has a byte that is no UTF-8: write the reason without accents, or"
+                    " in a terminal with UTF-8"
+                ),
+            ),
+            (
+                "x" * 600_000,
+                f"'{'x' * 20} ..' has 600000 signs: write a reason of at most 200",
+            ),
+            ("x" * 201, f"'{'x' * 20} ..' has 201 signs: write a reason of at most 200"),
+        ):
+            with self.subTest(reason[:20]):
+                ran = run("plan", self.ward, "set", "Grace", "Mon", "off", reason, "--do")
+                self.assertEqual(ran, (1, "", f"inrc2pb-plan: {says}\n"))
+                self.assertEqual(self.texts(), before)
+        self.set("Grace", "Mon", "off", "x" * 200)
+        self.assertEqual(read_state(self.last()).set_days[0].reason, "x" * 200)
 
     def test_a_running_week_is_mended_at_once(self):
         # The page for the wall shows it, and the end of the week as it was worked.
@@ -230,6 +269,12 @@ class Written(SetTest):
         path.write_text(json.dumps({**values, "set days": [["Grace", 99, ""]]}))
         with self.assertRaises(FileFault):
             read_record(self.last())
+        # What was set has the shift of the roster, or is a day off.
+        path.write_text(json.dumps({**values, "set days": [["Grace", 0, "a"], ["Grace", 5, ""]]}))
+        self.assertEqual(
+            read_state(self.last()).set_days,
+            (SetDay("Grace", 0, "a", "Day", "Nurse"), SetDay("Grace", 5)),
+        )
 
 
 @unittest.skipUnless(HAS_CBC, "cbc is not installed")
@@ -277,7 +322,7 @@ class Promised(KeptTest):
         self.assertEqual((plan.ward.credit, plan.ward.reasons), ({}, {}))
         self.assertEqual(
             [(one.kind, one.day) for one in Swaps(plan).faults(Swap("Grace", "Dilek", (3,)))][:1],
-            [(Kind.AWAY, 3)],
+            [(Obstacle.AWAY, 3)],
         )
         _, printed, _ = run("plan", self.ward, "check")
         self.assertIn("Promised days off: Grace on Thu 3 Dec.\n", printed)

@@ -1,4 +1,5 @@
-"""Tests of the page for the wall: one sheet of paper, the ward's own name, and what has changed since it was hung up."""
+"""Tests of the page for the wall: one sheet of paper, the ward's own name, and what has changed
+since it was hung up."""
 
 import datetime
 import re
@@ -10,15 +11,16 @@ from dataclasses import replace
 from test_folder_pages import CHANGED, FolderPages
 from test_plans import MONDAY, FolderTest
 
-from inrc2pb.commands.plan import read_sheet
+from inrc2pb.sheets.ward import read_sheet
 from inrc2pb.plans.pages import write_pages
 from inrc2pb.plans.ward import first_plan
 from inrc2pb.week.records import Cell
 
 NAMES = (
-    "Brigitte Huber, Anna Koch, Anna Maier, Siobhán O'Neill, Zoë Weiß, Łukasz Nowak, Mehmet Yılmaz, Chiara Rossi, Dragana Petrović, Jean-Luc Petit, "
-    "Fatima El Amrani, Günter Groß, Ines Pérez, Katja Vogel, Paul Schmidt, Ruth Stein, Sabine Lang, Tom Becker, Vera Novak, Willi Braun, "
-    "Lea Fischer, Noah Wagner"
+    "Brigitte Huber, Anna Koch, Anna Maier, Siobhán O'Neill, Zoë Weiß, Łukasz Nowak, Mehmet Yılmaz,"
+    " Chiara Rossi, Dragana Petrović, Jean-Luc Petit, Fatima El Amrani, Günter Groß, Ines Pérez,"
+    " Katja Vogel, Paul Schmidt, Ruth Stein, Sabine Lang, Tom Becker, Vera Novak, Willi Braun, Lea"
+    " Fischer, Noah Wagner"
 ).split(", ")
 
 
@@ -52,7 +54,7 @@ class Paper(FolderTest):
             and not (name == "Ruth Stein" and day % 7 > 4)
         ]
         plan = first_plan(read_sheet(self.ward, None, ())).with_cells(cells)
-        write_pages(self.ward, plan.with_state(replace(plan.state, published=True)), "stamp", 0, {})
+        write_pages(self.ward, plan.with_state(replace(plan.state, published=True)), "stamp", {})
         self.wall = (self.ward / "wall.html").read_text()
 
     def test_the_name_is_that_of_the_folder(self):

@@ -1,4 +1,5 @@
-"""Tests of a ward's folder: its spreadsheet, the names of its plans, runs that wait for one another, and disks that cannot be written."""
+"""Tests of a ward's folder: its spreadsheet, the names of its plans, runs that wait for one
+another, and disks that cannot be written."""
 
 import contextlib
 import errno
@@ -21,7 +22,8 @@ from inrc2pb.plans.ward_folder import WardFolder
 
 class Folders(FolderTest):
     def test_folders_that_are_no_ward(self):
-        empty, missing = self.folder / "empty", self.folder / "missing"
+        empty = self.folder / "empty"
+        missing = self.folder / "missing"
         empty.mkdir()
         self.assert_refused(
             f"{empty} has no spreadsheet: put the ward's .ods or .xlsx file into it", empty, "plan"
@@ -83,7 +85,10 @@ class Waits(FolderTest):
             env=dict(os.environ),
         )
         self.addCleanup(begun.kill)
-        line = f"another run works in {self.ward}: this one waits for its end, and its time begins then; Ctrl-C ends it\n"
+        line = (
+            f"another run works in {self.ward}: this one waits for its end, and its time begins"
+            " then; Ctrl-C ends it\n"
+        )
         limit = time.monotonic() + ENOUGH
         while time.monotonic() < limit and os.fstat(said.fileno()).st_size < len(line.encode()):
             time.sleep(0.05)
@@ -103,7 +108,9 @@ class Waits(FolderTest):
 
     @unittest.skipUnless(HAS_CBC, "cbc is not installed")
     def test_the_time_of_a_search_begins_after_the_wait(self):
-        real, locked, waited = time.monotonic, WardFolder.locked, [0.0]
+        real = time.monotonic
+        locked = WardFolder.locked
+        waited = [0.0]
 
         @contextlib.contextmanager
         def locked_after_a_day(folder, *words):
@@ -145,6 +152,20 @@ class Disks(FolderTest):
         )
         self.assert_unchanged(before)
 
+    def test_a_plan_that_no_verb_could_read_is_not_written(self):
+        # Commas after a word count for nothing, and plan.json keeps what was typed.
+        before = self.texts()
+        self.assert_refused(
+            "nothing is written, since no verb could read it again: plan.json: the file has more"
+            " than 1000000 bytes: give fewer words, or take days back that are set",
+            self.ward,
+            "over",
+            "Grace",
+            "Mon",
+            "off" + "," * 1_000_000,
+        )
+        self.assert_unchanged(before)
+
     def test_a_disk_that_is_full_after_the_plan(self):
         with mock.patch.object(
             pages, "write_own_text", side_effect=OSError(errno.ENOSPC, "No space left on device")
@@ -153,6 +174,17 @@ class Disks(FolderTest):
         self.assertEqual(status, 3)
         self.assertIn("the plan holds, but its pages are not written: ", printed)
         self.assertTrue((self.last() / "plan.json").exists())
+
+    def test_ctrl_c_after_the_plan(self):
+        with mock.patch.object(pages, "write_own_text", side_effect=KeyboardInterrupt):
+            status, printed, said = run("plan", self.ward, "over")
+        self.assertEqual((status, printed), (130, ""))
+        self.assertEqual(
+            said,
+            "the verb over has done its work, but pages may still show the plan before it: check"
+            " names them\n",
+        )
+        self.assertTrue(self.last().name.endswith("-over"))
 
     def test_a_folder_that_may_not_be_written(self):
         before = self.texts()

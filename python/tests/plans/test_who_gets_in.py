@@ -1,5 +1,6 @@
-"""Tests of a ward's folder that several people may write, and of its address: what a link in it leads to is neither read nor written, and
-the secret of the address is kept where nobody else reads it."""
+"""Tests of a ward's folder that several people may write, and of its address: what a link in it
+leads to is neither read nor written, and the secret of the address is kept where nobody else reads
+it."""
 
 import io
 import os
@@ -16,7 +17,7 @@ from test_folder_pages import FolderPages
 from test_plans import FolderTest
 from ward import run
 
-from inrc2pb.plans.local_server import LocalServer
+from inrc2pb.page.server import LocalServer
 from inrc2pb.programs.secrets_file import kept_secret
 from inrc2pb.week.faults import Misuse
 from inrc2pb.week.own_files import own_bytes
@@ -30,7 +31,8 @@ class Links(FolderTest):
     def setUp(self):
         super().setUp()
         self.write_plan()
-        self.outside, self.others = self.folder / "outside.txt", self.folder / "others"
+        self.outside = self.folder / "outside.txt"
+        self.others = self.folder / "others"
         self.outside.write_text("mine")
         self.others.mkdir()
 
@@ -69,7 +71,10 @@ class Links(FolderTest):
                 path.unlink()
                 path.symlink_to(self.outside)
                 self.assert_refused(
-                    f"{name}: this is a link, and no link is followed here: delete it, or type undo",
+                    (
+                        f"{name}: this is a link, and no link is followed here: delete it, or type"
+                        " undo"
+                    ),
                     "page",
                 )
                 path.unlink()
@@ -129,8 +134,10 @@ class Links(FolderTest):
 
 class LinkedPages(FolderPages):
     def test_a_link_that_comes_back_at_once(self):
-        """Another one's program makes a page a link again and again while it is written: what it leads to stays as it was."""
-        outside, ended = self.folder / "outside.txt", threading.Event()
+        """Another one's program makes a page a link again and again while it is written: what it
+        leads to stays as it was."""
+        outside = self.folder / "outside.txt"
+        ended = threading.Event()
         outside.write_text("mine")
 
         def links():
@@ -201,7 +208,10 @@ class Secret(FolderTest):
             kept_secret(self.path)
 
     def test_it_is_not_kept_in_the_folder_of_the_ward(self):
-        says = f"--secret {self.ward}/secret is in the ward's folder, which others may read: name a file elsewhere\n"
+        says = (
+            f"--secret {self.ward}/secret is in the ward's folder, which others may read: name a"
+            " file elsewhere\n"
+        )
         self.assert_fault(
             run("plan", self.ward, "serve", "--secret", self.ward / "secret"),
             f"inrc2pb-plan: {says.rstrip()}",
@@ -231,7 +241,10 @@ class Gone(ServedPage):
                     text = self.ended() if status == 303 else text
                     self.assertTrue(status in (303, 503), status)
                     self.assertIn(
-                        "No such file or directory: nothing is lost: see that the ward&#x27;s folder is there again",
+                        (
+                            "No such file or directory: nothing is lost: see that the ward&#x27;s"
+                            " folder is there again"
+                        ),
                         text,
                     )
             away.rename(self.ward)

@@ -22,6 +22,29 @@ with own_folder():
     os.kill(os.getpid(), signal.SIGKILL)
 """
 
+# A helper that gets a signal as soon as its folder is made. It is a process of its own, since pytest
+# has threads, and a signal that one thread holds back comes to another.
+SIGNALED = """
+import os, signal, sys, tempfile
+sys.path.insert(0, sys.argv[1])
+from inrc2pb.programs.interrupts import Interrupted
+from inrc2pb.programs.own_folder import own_folder
+make = tempfile.mkdtemp
+def made(*words, **options):
+    folder = make(*words, **options)
+    os.kill(os.getpid(), signal.SIGTERM)
+    return folder
+def ends(number, _frame):
+    raise Interrupted(number)
+signal.signal(signal.SIGTERM, ends)
+tempfile.mkdtemp = made
+try:
+    with own_folder():
+        pass
+except Interrupted:
+    print("interrupted")
+"""
+
 
 class OwnFolder(HelperTest):
     def setUp(self):
@@ -39,6 +62,13 @@ class OwnFolder(HelperTest):
             inner = Path(tempfile.mkdtemp())
             self.assertEqual(inner.parents[1], self.folder)
         self.assertEqual((self.names(), tempfile.gettempdir()), ([], str(self.folder)))
+
+    def test_a_signal_while_it_is_made_leaves_nothing(self):
+        environment = {**os.environ, "TMPDIR": str(self.folder)}
+        words = [sys.executable, "-c", SIGNALED, str(HELPERS)]
+        ran = subprocess.run(words, env=environment, stdout=subprocess.PIPE)
+        self.assertEqual((ran.returncode, ran.stdout), (0, b"interrupted\n"))
+        self.assertEqual(self.names(), [])
 
     def test_the_next_one_removes_the_folder_of_a_killed_one(self):
         environment = {**os.environ, "TMPDIR": str(self.folder)}

@@ -40,7 +40,8 @@ class Groups(HelperTest):
         self.assertTrue(processes.run(["sleep", "600"], 600, self.folder).timed_out)
 
     def test_processes_that_are_asked_to_end_and_do_not_are_killed(self):
-        processes, began = Processes(), time.monotonic()
+        processes = Processes()
+        began = time.monotonic()
 
         def hear(data):
             if data.startswith(b"ready"):

@@ -1,4 +1,5 @@
-"""Tests of the tree of cases: what it proves against all plans of tiny weeks, the rosters that it finds, and solvers that fail or lie."""
+"""Tests of the tree of cases: what it proves against all plans of tiny weeks, the rosters that it
+finds, and solvers that fail or lie."""
 
 import itertools
 import random
@@ -19,7 +20,7 @@ from inrc2pb.rows import case_tree
 from inrc2pb.rows.case_pricing import CasePricing
 from inrc2pb.rows.case_program import SOLUTION_STEPS, CaseProgram
 from inrc2pb.rows.case_search import CaseSearch, CaseTask, Examined
-from inrc2pb.rows.case_splits import best_split
+from inrc2pb.rows.case_splits import Rated, best_split
 from inrc2pb.rows.case_tree import CaseTree
 from inrc2pb.rows.plan import Plan
 from inrc2pb.rows.pricing import Crews
@@ -30,7 +31,7 @@ from inrc2pb.rows.workers import Worker, workers
 from inrc2pb.solvers.answers import SolverFault
 from inrc2pb.solvers.linear_solvers import LinearSolver
 from inrc2pb.solvers.resident_program import OPTIMAL, STOPPED, LinearProgram, Solution
-from inrc2pb.week.facts import AtPlace
+from inrc2pb.week.facts import AtPlace, Choice
 
 FEW = 10**6
 # A week of six nurses whose prices prove 130; the best roster costs 135.
@@ -39,7 +40,8 @@ FILES = program.WeekFiles(HOME / "ward.txt", HOME / "history.txt", HOME / "week.
 
 
 def optimum(pricing):
-    """The penalty of the best roster of a tiny plan, by all pairs of rows; None if there is none."""
+    """The penalty of the best roster of a tiny plan, by all pairs of rows; None if there is
+    none."""
     rows_of_nurses = []
     for nurse in range(len(pricing.plan.nurses)):
         rows = map(
@@ -67,9 +69,9 @@ class Lies(LinearProgram):
 
     def solve(self, clock, how="", iterations=0, whole=True):
         clock.check()
-        any_of = lambda number: array(
+        any_of = lambda number: array(  # noqa: E731
             "d", [self.chance.choice([0.0, 0.5, 1.0, 30.0, -7.0, 1e6]) for _ in range(number)]
-        )  # noqa: E731
+        )
         return Solution(
             OPTIMAL, self.chance.choice([0.0, 55.5, 1e5]), any_of(self.rows), any_of(self.columns)
         )
@@ -82,12 +84,11 @@ class Trees(HelperTest):
         self.addCleanup(self.solver.close)
 
     def tree(self, plan, penalty, program=None):
-        """A tree of a plan whose best roster has this penalty; the rosters that it finds are in `found`."""
-        self.pricing, self.found, self.penalty = (
-            CasePricing(plan, Crews(plan), lambda: None),
-            [],
-            penalty,
-        )
+        """A tree of a plan whose best roster has this penalty; the rosters that it finds are in
+        `found`."""
+        self.pricing = CasePricing(plan, Crews(plan), lambda: None)
+        self.found = []
+        self.penalty = penalty
 
         def take(rows, _finder):
             roster = staffed(plan, self.pricing.crews, rows)
@@ -170,7 +171,8 @@ class Trees(HelperTest):
 
     @unittest.skipUnless(HAS_CBC, "needs cbc")
     def test_several_searches_of_which_one_fails(self):
-        week, tried = files.read_files(FILES.scenario, FILES.history, FILES.week), []
+        week = files.read_files(FILES.scenario, FILES.history, FILES.week)
+        tried = []
         tree = self.tree(Plan.of(week.scenario, week.history, [week.data]), 140)
 
         def fails(clock, take, task):
@@ -195,7 +197,8 @@ class Trees(HelperTest):
 
     def test_a_tree_ends_with_the_bound_of_a_case_that_no_split_raises(self):
         week = files.read_files(FILES.scenario, FILES.history, FILES.week)
-        tree, tried = self.tree(Plan.of(week.scenario, week.history, [week.data]), 140), []
+        tree = self.tree(Plan.of(week.scenario, week.history, [week.data]), 140)
+        tried = []
 
         def close(_clock, _take, task):
             tried.append((task.case, task.target))
@@ -203,19 +206,40 @@ class Trees(HelperTest):
             return Examined(task.known._replace(bound=bound), 112.0)
 
         tree.run(Clock(600.0), [close])
-        # The case of even charges costs at least 120, so the other one need not be searched for more.
+        # The case of even charges costs at least 120, so the other one need not be searched for
+        # more.
         first, *others = tried
         self.assertEqual((first[1], tree.bound, tree.target), (140, 120, 120))
         self.assertTrue(all(target == 120 for _, target in others))
         self.penalty = 115
         self.assertEqual(tree.target, 115)
 
+    def test_a_tree_has_no_more_leaves_than_a_certificate(self):
+        week = files.read_files(FILES.scenario, FILES.history, FILES.week)
+        shifts = (None, *week.scenario.shift_types)
+        for searches in (1, 4):
+            tree = self.tree(Plan.of(week.scenario, week.history, [week.data]), FEW)
+            product = itertools.product([1], week.scenario.nurses, range(7), shifts)
+            facts = itertools.starmap(Choice, product)
+            split = []
+
+            def close(_clock, _take, task):
+                split.append(task.case)
+                return Examined(task.known, 0.0, Rated(next(facts), (1.0, 1.0)))
+
+            with (
+                self.subTest(searches),
+                mock.patch.multiple(case_tree, MOST_LEAVES=7, LEAVES_EACH=0),
+            ):
+                tree.run(Clock(600.0), [close] * searches)
+                # The root has two cases, and each split of a case makes one more.
+                self.assertEqual((2 + len(split), tree.leaves), (7, 7))
+
     def test_a_split_raises_the_value_of_a_case(self):
         week = files.read_files(FILES.scenario, FILES.history, FILES.week)
         self.tree(Plan.of(week.scenario, week.history, [week.data]), 140)
-        facts, now = [
-            AtPlace(1, self.pricing.crews.places[number], 0) for number in (0, 1)
-        ], mock.Mock(value=100.0)
+        facts = [AtPlace(1, self.pricing.crews.places[number], 0) for number in (0, 1)]
+        now = mock.Mock(value=100.0)
         for rises, best in (
             ((0, 0, 0, 0), None),
             ((0, 0, 0, 5), facts[1]),
@@ -234,7 +258,8 @@ class Trees(HelperTest):
     def test_a_process_that_searches_cases(self):
         week = files.read_files(FILES.scenario, FILES.history, FILES.week)
         plan = Plan.of(week.scenario, week.history, [week.data])
-        tree, rows = self.tree(plan, 140), [[] for _ in plan.nurses]
+        tree = self.tree(plan, 140)
+        rows = [[] for _ in plan.nurses]
         [worker] = workers(Known(plan, [0] * len(plan.demand), rows), [self.solver])
         self.addCleanup(worker.end)
         tree.run(Clock(600.0), [worker.close])
@@ -272,9 +297,12 @@ class Runs(HelperTest):
         return solver
 
     def run_rows(self, until=None, **options):
-        """A search over the rows of a week that prices alone do not prove. It is stopped when its penalty and its bound are these."""
+        """A search over the rows of a week that prices alone do not prove. It is stopped when its
+        penalty and its bound are these."""
         week = files.read_files(FILES.scenario, FILES.history, FILES.week)
-        plan, bounds, clock = Plan.of(week.scenario, week.history, [week.data]), [], Clock(600.0)
+        plan = Plan.of(week.scenario, week.history, [week.data])
+        bounds = []
+        clock = Clock(600.0)
 
         def see(penalty):
             if (penalty, run.lower_bound) == until:
@@ -312,7 +340,8 @@ class Runs(HelperTest):
     def test_a_solver_that_is_stopped_each_time_proves_nothing_wrong(self):
         week = files.read_files(FILES.scenario, FILES.history, FILES.week)
         plan = Plan.of(week.scenario, week.history, [week.data])
-        pricing, program = CasePricing(plan, Crews(plan), lambda: None), Stopped(self.solver())
+        pricing = CasePricing(plan, Crews(plan), lambda: None)
+        program = Stopped(self.solver())
         tree = CaseTree(pricing, [0] * len(plan.demand), lambda: 135, lambda rows, finder: None)
         tree.run(Clock(600.0), [CaseSearch(pricing, CaseProgram(pricing, program)).close])
         self.assertEqual(tree.bound, 135)

@@ -1,4 +1,5 @@
-"""Tests of certificates: their text, and the bounds of their leaves against all plans of tiny periods, under all kinds of facts."""
+"""Tests of certificates: their text, and the bounds of their leaves against all plans of tiny
+periods, under all kinds of facts."""
 
 import itertools
 import unittest
@@ -6,10 +7,11 @@ import unittest
 import certificate_bound as plain
 from test_rows import random_plan
 
+from inrc2pb.rows.case_limits import Count
 from inrc2pb.rows.case_pricing import CasePricing, leaf_of, surcharge_of
 from inrc2pb.rows.certificate import Certificate, Leaf, Split
 from inrc2pb.rows.pricing import Crews
-from inrc2pb.week.facts import KINDS, SHIFT_RUNS, AtPlace, Charged, Choice, Even, facts_text
+from inrc2pb.week.facts import KINDS, SHIFT_RUNS, AtPlace, Charged, Choice, Claim, Even, facts_text
 from inrc2pb.week.records import Place
 
 POINT = 1000
@@ -17,7 +19,8 @@ POINT = 1000
 
 def random_fact(plan, chance, kinds):
     """Any fact about a plan; charges are of these kinds."""
-    week, day = chance.randint(1, len(plan.weeks)), chance.randrange(7)
+    week = chance.randint(1, len(plan.weeks))
+    day = chance.randrange(7)
     shifts = list(plan.scenario.shift_types)
     kind = chance.randrange(4)
     if kind == 0:
@@ -58,10 +61,12 @@ def period_of(plan):
 
 
 class AllPlans:
-    """All plans of a tiny period: the cells of each nurse, with what they cost and charge, and the nurses at each place."""
+    """All plans of a tiny period: the cells of each nurse, with what they cost and charge, and the
+    nurses at each place."""
 
     def __init__(self, plan):
-        self.plan, self.period = plan, period_of(plan)
+        self.plan = plan
+        self.period = period_of(plan)
         self.of = [list(self._of(nurse)) for nurse in plan.nurses]
 
     def _of(self, nurse):
@@ -71,21 +76,26 @@ class AllPlans:
         for weeks in itertools.product(
             itertools.product(choices, repeat=7), repeat=len(self.plan.weeks)
         ):
-            past, total, counts = self.plan.history.nurses[nurse], 0, [0] * len(KINDS)
+            past = self.plan.history.nurses[nurse]
+            total = 0
+            counts = [0] * len(KINDS)
             for number, days in enumerate(weeks):
                 found = self.period.week_of(nurse, number, past, days)
                 if found is None:
                     break
-                total, past = total + found[0], found[2]
+                total = total + found[0]
+                past = found[2]
                 counts = [one + more for one, more in zip(counts, found[1])]
             else:
                 yield tuple(itertools.chain(*weeks)), total, counts
 
     def sample(self, chance, number):
-        """Some plans with their skills, which keep the minimums: choices, charges, nurses at places, and penalty."""
+        """Some plans with their skills, which keep the minimums: choices, charges, nurses at
+        places, and penalty."""
         for _ in range(number):
             rows = [chance.choice(own) for own in self.of]
-            there, penalty = {}, sum(row[1] for row in rows)
+            there = {}
+            penalty = sum(row[1] for row in rows)
             for nurse, (days, *_) in zip(self.plan.nurses, rows):
                 for day, shift in enumerate(days):
                     if shift:
@@ -127,8 +137,10 @@ class Texts(unittest.TestCase):
             Split(Charged(SHIFT_RUNS, None, 2), Leaf([0, 7], (0, 3)), Leaf([5, 0], (4, 0))),
         )
         wanted = (
-            "CERTIFICATE w\nWEEKS = 2\nPRICES = 2\nROWS = 1\nLate Nurse 5 0 0 0 0 0 0\nROWS = 0\nROWS = 0\nROWS = 1\nEarly Nurse 0 7 0 0 0 0 0\n"
-            "LEAVES = 3\nSPLIT EVEN\nLEAF 0 SURCHARGES = 0\nSPLIT CHARGES SHIFT_RUNS ALL 2\nLEAF 1 SURCHARGES = 2 0 3\nLEAF 0 SURCHARGES = 2 4 0\n"
+            "CERTIFICATE w\nWEEKS = 2\nPRICES = 2\nROWS = 1\nLate Nurse 5 0 0 0 0 0 0\nROWS ="
+            " 0\nROWS = 0\nROWS = 1\nEarly Nurse 0 7 0 0 0 0 0\nLEAVES = 3\nSPLIT EVEN\nLEAF 0"
+            " SURCHARGES = 0\nSPLIT CHARGES SHIFT_RUNS ALL 2\nLEAF 1 SURCHARGES = 2 0 3\nLEAF 0"
+            " SURCHARGES = 2 4 0\n"
         )
         self.assertEqual(Certificate(2, places, tree).text("w"), wanted)
 
@@ -157,7 +169,8 @@ class Bounds(unittest.TestCase):
             plan, chance = random_plan(seed, weeks, nurses=2, shifts=shifts)
             if not plan.demand:
                 continue
-            every, root = AllPlans(plan), random_tree(plan, chance, 7, KINDS)
+            every = AllPlans(plan)
+            root = random_tree(plan, chance, 7, KINDS)
             certificate = Certificate(weeks, list(plan.demand), root)
             leaves = plain.read_certificate(certificate.text("x"), weeks, [])
             bounds = [plain.leaf_bound(every.period, leaf) for leaf in leaves]
@@ -176,6 +189,14 @@ class Bounds(unittest.TestCase):
 
 
 class Pricings(unittest.TestCase):
+    def test_limits_of_the_charges_of_shift_runs(self):
+        # Where `at most 2` does not hold, at least 3 are charged.
+        plan, _ = random_plan(0, 1, nurses=2, shifts=1)
+        pricing = CasePricing(plan, Crews(plan), lambda: None)
+        for holds, found in ((True, (None, Count(2, 0))), (False, (Count(3, 0), None))):
+            limits = pricing.limits([Claim(Charged(SHIFT_RUNS, None, 2), holds)])
+            self.assertEqual((limits.least, limits.most), found)
+
     def test_bounds_of_leaves_are_those_of_all_plans(self):
         compared = 0
         for seed in range(12):
@@ -183,7 +204,8 @@ class Pricings(unittest.TestCase):
             plan, chance = random_plan(seed, weeks, nurses=2, shifts=shifts)
             if not plan.demand:
                 continue
-            pricing, period = CasePricing(plan, Crews(plan), lambda: None), period_of(plan)
+            pricing = CasePricing(plan, Crews(plan), lambda: None)
+            period = period_of(plan)
             certificate = Certificate(
                 weeks, list(plan.demand), random_tree(plan, chance, 3, (SHIFT_RUNS,))
             )

@@ -1,5 +1,7 @@
-"""Tests of the compiled pricing: on random graphs it finds the rows that NumPy finds, and costs as much; without a library NumPy is used."""
+"""Tests of the compiled pricing: on random graphs it finds the rows that NumPy finds, and costs as
+much; without a library NumPy is used."""
 
+import os
 import shutil
 import subprocess
 import tempfile
@@ -17,7 +19,7 @@ from inrc2pb.rows import compiled
 from inrc2pb.rows.case_pricing import CasePricing
 from inrc2pb.rows.compiled import CompiledRows
 from inrc2pb.rows.pricing import Crews
-from inrc2pb.rows.row_arrays import Blocks, Member
+from inrc2pb.rows.row_arrays import Arrays, Blocks, Member
 from inrc2pb.rows.row_generation import RowGeneration
 
 SOURCE = HELPERS / "inrc2pb" / "rows" / "cheapest_rows.c"
@@ -27,9 +29,13 @@ COMPILER = shutil.which("cc") or shutil.which("clang")
 def built(folder):
     """The library of the present source."""
     path = Path(folder, "rows.so")
+    # With ROWS_FLAGS='-fsanitize=address,undefined', and LD_PRELOAD of its library, an access
+    # outside of an array is found.
+    flags = os.environ.get("ROWS_FLAGS", "").split()
     subprocess.run(
         [
             COMPILER,
+            *flags,
             "-O1",
             "-Wall",
             "-Wextra",
@@ -54,12 +60,12 @@ class CompiledPricing(unittest.TestCase):
 
     def compare(self, members, days, pay):
         """Both find the same rows of all nurses, and of some, at the same costs."""
-        fast, plain = CompiledRows(members, days, self.library), Blocks(members, days)
+        fast = CompiledRows(members, days, self.library)
+        plain = Blocks(members, days)
         nurses = [member.nurse for member in members]
         for some in (nurses, nurses[::-2]):
-            (costs, rows), (wanted, wanted_rows) = fast.cheapest(pay[some], some), plain.cheapest(
-                pay[some], some
-            )
+            (costs, rows) = fast.cheapest(pay[some], some)
+            (wanted, wanted_rows) = plain.cheapest(pay[some], some)
             for number in range(len(some)):
                 self.assertEqual(min(costs[number], NEVER // 2), min(wanted[number], NEVER // 2))
                 if costs[number] < NEVER // 2:
@@ -83,8 +89,10 @@ class CompiledPricing(unittest.TestCase):
                 Member(nurse, graph.arrays, start)
                 for nurse, (graph, start) in enumerate(zip(pricing.graphs, pricing.starts))
             ]
-            # In every third plan nurses may have few choices, and reach few nodes; some have no row.
-            shape, open_share = numpy.array(pricing.crews.of).shape, (1.0, 0.7, 0.3)[seed % 3]
+            # In every third plan nurses may have few choices, and reach few nodes; some have no
+            # row.
+            shape = numpy.array(pricing.crews.of).shape
+            open_share = (1.0, 0.7, 0.3)[seed % 3]
             allowed = numpy.array(
                 [chance.random() < open_share for _ in range(numpy.prod(shape))]
             ).reshape(shape)
@@ -93,7 +101,8 @@ class CompiledPricing(unittest.TestCase):
     def test_the_same_rows_on_some_days(self):
         for seed in range(40):
             plan, chance = random_plan(seed, weeks=2, nurses=9)
-            pricing, days = pricing_of(plan), range(chance.randrange(7), chance.randrange(8, 14))
+            pricing = pricing_of(plan)
+            days = range(chance.randrange(7), chance.randrange(8, 14))
             members = []
             for nurse, (graph, start) in enumerate(zip(pricing.graphs, pricing.starts)):
                 row = bytes(chance.choice((0, 0, 1)) for _ in range(plan.days))
@@ -111,10 +120,29 @@ class CompiledPricing(unittest.TestCase):
             ).reshape(shape)
             self.compare(members, days, self.pay(chance, pricing, allowed))
 
+    def test_a_nurse_with_few_choices_who_reaches_each_node(self):
+        """Two choices of five are left, which lead from each node to two others: the next day has
+        twice as many nodes, and all of them have room."""
+        days = range(6)
+        arrays = Arrays(
+            [
+                (
+                    numpy.zeros((5, 2**day), dtype=numpy.int64),
+                    numpy.array([[2 * node + c % 2 for node in range(2**day)] for c in range(5)]),
+                    numpy.arange(2 ** (day + 1)) % 2,
+                )
+                for day in days
+            ]
+        )
+        pay = numpy.full((1, len(days), 5), NEVER)
+        pay[0, :, :2] = [[0, POINT * (day - 2)] for day in days]
+        self.compare([Member(0, arrays, 0)], days, pay)
+
     def test_the_same_prices_of_cases(self):
         for seed in range(20):
             plan, chance = random_plan(seed, nurses=9)
-            crews, found = Crews(plan), []
+            crews = Crews(plan)
+            found = []
             prices = [chance.randrange(40 * POINT) for _ in crews.places]
             for library in (self.library, None):
                 with mock.patch.object(compiled, "library", library):

@@ -1,4 +1,5 @@
-"""Tests of plans of several weeks: costs, bounds and cheapest rows, beside inrc2pb.rules and random rows."""
+"""Tests of plans of several weeks: costs, bounds and cheapest rows, beside inrc2pb.rules and random
+rows."""
 
 import random
 import threading
@@ -8,10 +9,9 @@ from ward import HAS_CBC, ROOT, THIRTY_FILES, HelperTest, files, records
 
 from inrc2pb.judging.next_history import next_history
 from inrc2pb.judging.rules import costs, first_broken, nurse_costs
-from inrc2pb.programs.clock import Clock, TimeIsOver
+from inrc2pb.programs.clock import Clock
 from inrc2pb.programs.processes import Processes
 from inrc2pb.rows.descent import all_off
-from inrc2pb.rows.part_search import Done
 from inrc2pb.rows.plan import POINT, Plan
 from inrc2pb.rows.pricing import Crews, Pricing
 from inrc2pb.rows.row_parts import RowParts
@@ -62,7 +62,9 @@ def random_row(pricing, nurse, chance):
 
 def costs_by_rules(rows):
     """What the nurses pay for these rows week by week, by inrc2pb.rules."""
-    names, history, paid = list(SCENARIO.shift_types), HISTORY, dict.fromkeys(SCENARIO.nurses, 0)
+    names = list(SCENARIO.shift_types)
+    history = HISTORY
+    paid = dict.fromkeys(SCENARIO.nurses, 0)
     for number, data in enumerate(WEEKS):
         cells = [
             records.Cell(
@@ -97,8 +99,10 @@ class FourWeeks(unittest.TestCase):
             )
 
     def test_no_row_costs_less_than_the_cheapest(self):
-        chance, prices = random.Random(2), random_prices(self.pricing, 5)
-        gains, crews = self.pricing.crews.gains(prices), self.pricing.crews.of
+        chance = random.Random(2)
+        prices = random_prices(self.pricing, 5)
+        gains = self.pricing.crews.gains(prices)
+        crews = self.pricing.crews.of
         for nurse, found in enumerate(cheapest(self.pricing)):
             rows = [found.row, *(random_row(self.pricing, nurse, chance) for _ in range(20))]
             earned = [
@@ -158,7 +162,7 @@ class Parts(HelperTest):
         search.begin(all_off(plan), None)
         parts = RowParts(search, [solver, solver.beside(1)])
 
-        def improve(part, solver, clock, roster):
+        def dive(solver, clock, task):
             if solver is parts._solvers[1]:
                 words = ["sh", "-c", "echo ready; exec sleep 60"]
                 ended.append(
@@ -167,16 +171,18 @@ class Parts(HelperTest):
                     ).status
                 )
             ready.wait()
-            search.bound, search.penalty = 0, 0
-            return Done(True, 0)
+            search.bound = 0
+            search.penalty = 0
 
-        ended, ready = [], threading.Event()
-        with mock.patch.object(parts, "improve", improve):
+        ended = []
+        ready = threading.Event()
+        with mock.patch.object(parts, "_dive", dive):
             parts.run(search.clock)
         self.assertEqual(ended, [-9])
 
     def test_without_a_solver_that_fails_the_others_go_on(self):
-        plan, warnings = Plan.of(SCENARIO, HISTORY, WEEKS[:1]), []
+        plan = Plan.of(SCENARIO, HISTORY, WEEKS[:1])
+        warnings = []
         solver = LinearSolver(Processes(), self.folder, warnings.append)
         search = RowSearch(
             Pricing(plan, Crews(plan), lambda: None),
@@ -186,50 +192,32 @@ class Parts(HelperTest):
             lambda: None,
         )
         search.begin(all_off(plan), None)
-        parts, failed = RowParts(search, [solver, solver.beside(1)]), threading.Event()
+        parts = RowParts(search, [solver, solver.beside(1)])
+        failed = threading.Event()
 
-        def improve(part, used, clock, roster):
+        def dive(used, clock, task):
             if used is solver:
                 failed.set()
                 raise SolverFault("cbc wrote an empty answer")
             failed.wait()
             while not warnings:
                 clock.check()
-            search.bound, search.penalty = 0, 0
-            return Done(True, 0)
+            search.bound = 0
+            search.penalty = 0
 
-        with mock.patch.object(parts, "improve", improve):
+        with mock.patch.object(parts, "_dive", dive):
             parts.run(search.clock)
         self.assertEqual(
             warnings, ["cbc wrote an empty answer: the search goes on with 1 of 2 threads"]
         )
 
-        def fails(part, used, clock, roster):
+        def fails(used, clock, task):
             raise SolverFault("cbc wrote an empty answer")
 
-        search.bound, search.penalty = None, 10_000
-        with mock.patch.object(parts, "improve", fails), self.assertRaises(SolverFault):
+        search.bound = None
+        search.penalty = 10_000
+        with mock.patch.object(parts, "_dive", fails), self.assertRaises(SolverFault):
             parts.run(search.clock)
-
-    def test_parts_that_the_time_does_not_end_get_smaller(self):
-        plan = Plan.of(SCENARIO, HISTORY, WEEKS[:1])
-        solver = LinearSolver(Processes(), self.folder, self.fail)
-        for ended, grows in ((True, True), (False, False)):
-            search = RowSearch(
-                Pricing(plan, Crews(plan), lambda: None),
-                solver,
-                Clock(600),
-                lambda rows, finder: search.value_of(rows),
-                lambda: None,
-            )
-            search.begin(all_off(plan), None)
-            parts = RowParts(search, [solver])
-            first = parts._sizes[7]
-            with mock.patch.object(
-                RowParts, "improve", return_value=Done(ended, 1000)
-            ), self.assertRaises(TimeIsOver):
-                parts.run(Clock(1.0))
-            self.assertEqual(parts._sizes[7] > first, grows)
 
 
 if __name__ == "__main__":

@@ -1,4 +1,5 @@
-"""Tests of prices without a linear program: they bound rosters, come near to the best ones, and the rows on the way keep the hard rules."""
+"""Tests of prices without a linear program: they bound rosters, come near to the best ones, and the
+rows on the way keep the hard rules."""
 
 import unittest
 

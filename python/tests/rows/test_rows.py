@@ -1,4 +1,5 @@
-"""Tests of rows: their costs against the rules, their prices and bounds against all rows, and the skills of a roster."""
+"""Tests of rows: their costs against the rules, their prices and bounds against all rows, and the
+skills of a roster."""
 
 import itertools
 import random
@@ -20,15 +21,15 @@ POINT = 1000
 
 
 def random_plan(seed, weeks=1, nurses=4, shifts=4):
-    """A plan with hostile numbers: limits of 0 and 9999, histories that contradict themselves, nurses without skills."""
+    """A plan with hostile numbers: limits of 0 and 9999, histories that contradict themselves,
+    nurses without skills."""
     chance = random.Random(seed)
-    number = lambda: chance.choice(
+    number = lambda: chance.choice(  # noqa: E731
         [0, 0, 1, 1, 2, 3, 4, 5, 6, 7, 9, 15, 9999] if seed % 2 else range(7)
-    )  # noqa: E731
+    )
     limits = lambda: records.Limits(number(), number())  # noqa: E731
-    names, skills = [f"s{n}" for n in range(chance.randint(1, shifts))], ["a", "b"][
-        : chance.randint(1, 2)
-    ]
+    names = [f"s{n}" for n in range(chance.randint(1, shifts))]
+    skills = ["a", "b"][: chance.randint(1, 2)]
     types = {
         name: records.ShiftType(name, limits(), tuple(t for t in names if chance.random() < 0.25))
         for name in names
@@ -86,9 +87,11 @@ def bound_of(pricing, prices):
 
 def cost_by_rules(plan, nurse, cells):
     """What a nurse's cells cost by `rules`, week by week; None if they break H3."""
-    history, total = plan.history, 0
+    history = plan.history
+    total = 0
     for number, data in enumerate(plan.weeks):
-        week, now = records.Week(plan.scenario, history, data), [
+        week = records.Week(plan.scenario, history, data)
+        now = [
             cell._replace(day=cell.day - 7 * number) for cell in cells if cell.day // 7 == number
         ]
         if "H3" in broken(week, now):
@@ -133,7 +136,8 @@ class Rows(unittest.TestCase):
             prices = [chance.randrange(40 * POINT) for _ in pricing.crews.places]
             gains = pricing.crews.gains(prices)
             for nurse in range(2):
-                table, values = pricing.crews.of[nurse], {}
+                table = pricing.crews.of[nurse]
+                values = {}
                 for choices in itertools.product(
                     range(len(plan.scenario.shift_types) + 1), repeat=7
                 ):
@@ -148,9 +152,8 @@ class Rows(unittest.TestCase):
     def test_no_prices_give_a_bound_above_a_roster(self):
         for seed in range(60):
             plan, chance = random_plan(seed)
-            pricing, week = pricing_of(plan), records.Week(
-                plan.scenario, plan.history, plan.weeks[0]
-            )
+            pricing = pricing_of(plan)
+            week = records.Week(plan.scenario, plan.history, plan.weeks[0])
             prices = [chance.choice([0, 15, 30, 200]) * POINT for _ in pricing.crews.places]
             found = [pricing.cheapest(nurse, pricing.crews.gains(prices)) for nurse in range(4)]
             bound = bound_of(pricing, prices)
@@ -230,7 +233,8 @@ class Rows(unittest.TestCase):
             pricing = pricing_of(plan)
             descent = Descent(pricing, all_off(plan))
             while descent.sweep(lambda: None):
-                # What one more nurse of a crew is worth is that of a descent which begins with these rows.
+                # What one more nurse of a crew is worth is that of a descent which begins with
+                # these rows.
                 self.assertEqual(list(descent._worth), list(Descent(pricing, descent.rows)._worth))
 
 

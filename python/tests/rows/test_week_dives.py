@@ -11,20 +11,22 @@ from test_row_parts import CHOICES, EARLY, LONG, OFF, DiveTest, search_of
 from ward import HAS_CBC
 
 from inrc2pb.programs.clock import Clock, TimeIsOver
-from inrc2pb.rows import part_search, row_parts, week_dives
+from inrc2pb.rows import plan, week_dives, windows
 from inrc2pb.rows.descent import all_off
 from inrc2pb.rows.plan import POINT
 from inrc2pb.rows.part_search import Dive, Done, PartSearch
 from inrc2pb.rows.row_parts import RowParts
 from inrc2pb.rows.row_program import RowProgram
 from inrc2pb.rows.week_dives import WeekDives, _Week
+from inrc2pb.rows.windows import Window
 from inrc2pb.rows.workers import Worker
 from inrc2pb.solvers.resident_program import DUAL, INFEASIBLE, PRIMAL, LinearProgram
 
 
 class Kept(unittest.TestCase):
     def test_the_cheapest_rows_with_choices_that_are_kept(self):
-        whole, chance = search_of(1), random.Random(3)
+        whole = search_of(1)
+        chance = random.Random(3)
         gains = whole.pricing.crews.gains(
             [chance.choice((0, 7_123, 30_000)) for _ in whole.pricing.crews.places]
         )
@@ -57,7 +59,9 @@ class Dives(DiveTest):
     def test_dives_end_near_the_bound_and_the_same_chance_at_the_same_roster(self):
         for weeks in (1, 2):
             search = self.generated(weeks)
-            lower, value, pricing = search.lower_bound, search.solved.value, search.pricing
+            lower = search.lower_bound
+            value = search.solved.value
+            pricing = search.pricing
             # Without a share it fixes as much at once as the solutions allow.
             for share, seed in ((0.0, None), (0.08, None), (0.3, 3)):
                 with self.subTest(weeks=weeks, share=share):
@@ -71,7 +75,8 @@ class Dives(DiveTest):
         self.assertEqual(one, other)
 
     def test_the_dual_method_comes_after_weeks_were_fixed(self):
-        search, asked = self.generated(1), []
+        search = self.generated(1)
+        asked = []
         solve = RowProgram.solve
 
         def watched(program, clock, how=PRIMAL):
@@ -87,9 +92,11 @@ class Dives(DiveTest):
         self.assertEqual(asked.count(DUAL), fixings.call_count)
 
     def test_a_program_that_the_dual_method_does_not_solve(self):
-        search, asked = self.generated(1), []
+        search = self.generated(1)
+        asked = []
         resident = search.program._program
-        solve, value = resident.solve, search.solved.value
+        solve = resident.solve
+        value = search.solved.value
 
         def failing(clock, how, iterations):
             asked.append(how)
@@ -101,8 +108,10 @@ class Dives(DiveTest):
         self.assertEqual(asked, [DUAL, PRIMAL])
 
     def test_shut_columns_leave_the_program_of_a_dive(self):
-        search, solved = self.generated(), []
-        whole, before = search.program, len(search.program.columns)
+        search = self.generated()
+        solved = []
+        whole = search.program
+        before = len(search.program.columns)
         solve = RowProgram.solve
 
         def watched(program, clock, how=PRIMAL):
@@ -112,7 +121,8 @@ class Dives(DiveTest):
         with mock.patch.object(RowProgram, "solve", watched):
             rows = search.dive(search.clock, 0.3)
         self.assertIsNotNone(rows)
-        # When weeks are fixed few of the columns are left. Only those that the last fixing shuts are in a program that is solved.
+        # When weeks are fixed few of the columns are left. Only those that the last fixing shuts
+        # are in a program that is solved.
         self.assertIs(solved[0][0], whole)
         self.assertLess(solved[-1][1], before / 2)
         self.assertGreater(len({id(program) for program, _ in solved}), 2)
@@ -124,62 +134,79 @@ class Dives(DiveTest):
             self.assertFalse(whole.add(nurse, row, search.pricing.cost(nurse, row)))
 
     def test_a_dive_of_another_process_begins_at_the_solution_of_the_whole_program(self):
-        search, offered = self.generated(), []
+        search = self.generated()
+        offered = []
         known = pickle.loads(pickle.dumps(search.known()._replace(program=search.program)))
         parts = PartSearch(search.pricing, known, self.solver.beside(1))
         part = known.program.open_part(self.solver.beside(1).program())
         self.assertAlmostEqual(part.solve(search.clock).value, search.solved.value, 6)
         self.assertEqual(part.iterations, known.program.iterations)
-        # In a long period it fixes without care, which takes too long there.
-        for few, in_order, care in ((4, False, 8), (4, True, 8), (1, True, 0)):
-            with mock.patch.object(
-                WeekDives, "dive", autospec=True, side_effect=WeekDives.dive
-            ) as dive:
-                with mock.patch.object(part_search, "FEW_WEEKS", few):
-                    done = parts.dive(
-                        search.clock,
-                        lambda rows, _finder: offered.append(rows) or True,
-                        Dive(0.3, in_order, None, None),
-                    )
-            self.assertTrue(done.ended and done.work)
-            self.assertEqual(dive.call_args[0][4:], (in_order, care))
-            self.assertLess(search.value_of(offered[-1]), search.lower_bound + 100)
+        done = parts.dive(
+            search.clock,
+            lambda rows, _finder: offered.append(rows) or True,
+            Dive(0.3, False, None, None),
+        )
+        self.assertTrue(done.ended)
+        self.assertLess(search.value_of(offered[-1]), search.lower_bound + 100)
+
+    def test_a_dive_apart_begins_without_the_rows_of_the_first_roster(self):
+        search = self.generated(1, all_off)
+        first = {(nurse, row) for nurse, row in enumerate(search.rows)}
+        begun = []
+        known = search.known()._replace(program=search.program)
+        parts = PartSearch(search.pricing, known, self.solver.beside(1))
+        generate = WeekDives.generate
+
+        def see(own, clock):
+            begun.append({column[:2] for column in own.program.columns})
+            generate(own, clock)
+
+        with mock.patch.object(WeekDives, "generate", see):
+            for is_apart in (False, True):
+                done = parts.dive(search.clock, lambda *_: True, Dive(0.3, is_apart, 7, None))
+                self.assertTrue(done.ended)
+        self.assertEqual(len(first), 30)
+        self.assertEqual(begun[0] - begun[1], first)
+        self.assertLess(begun[1], begun[0])
 
     def test_no_dive_depends_on_those_before_it(self):
-        search, offered, begun, programs = self.generated(), [], [], []
-        known, before = search.known()._replace(program=search.program), len(search.program.columns)
-        parts, other, whole_dive = (
-            PartSearch(search.pricing, known, self.solver.beside(1)),
-            [OFF * 2] * 30,
-            WeekDives.dive,
-        )
+        search = self.generated()
+        offered = []
+        begun = []
+        programs = []
+        known = search.known()._replace(program=search.program)
+        before = len(search.program.columns)
+        parts = PartSearch(search.pricing, known, self.solver.beside(1))
+        whole_dive = WeekDives.dive
 
         def dive(own, *words, **named):
-            begun.append((len(own.program.columns), own.penalty, own.rows))
+            begun.append((len(own.program.columns), own.penalty))
             programs.append(own.program._program)
             return whole_dive(own, *words, **named)
 
-        with mock.patch.object(WeekDives, "dive", dive), mock.patch.object(
-            LinearProgram, "close", autospec=True
-        ) as close:
+        with (
+            mock.patch.object(WeekDives, "dive", dive),
+            mock.patch.object(LinearProgram, "close", autospec=True) as close,
+        ):
             for task in (
                 Dive(0.3, False, 7, None),
                 Dive(0.3, False, 7, None),
-                Dive(0.3, False, 7, 9000, other),
+                Dive(0.3, False, 7, 9000),
             ):
                 offered.append([])
                 done = parts.dive(
                     search.clock, lambda rows, _finder: offered[-1].append(rows) or True, task
                 )
-                self.assertTrue(done.ended and done.work)
+                self.assertTrue(done.ended)
             self.assertEqual(
-                parts.dive(Clock(0.0), lambda *_: True, Dive(0.3, False, 7, None)), Done(False, 0)
+                parts.dive(Clock(0.0), lambda *_: True, Dive(0.3, False, 7, None)), Done(False)
             )
         columns = begun[0][0]
-        self.assertEqual(begun, [(columns, None, None)] * 2 + [(columns, 9000, other)])
+        self.assertEqual(begun, [(columns, None)] * 2 + [(columns, 9000)])
         self.assertEqual(offered[0], offered[1])
         self.assertTrue(all(offered))
-        # Each dive has a program of its own, which is closed at its end. The known program is as before.
+        # Each dive has a program of its own, which is closed at its end. The known program is as
+        # before.
         closed = [id(call.args[0]) for call in close.call_args_list]
         self.assertEqual(len({id(program) for program in programs}), 3)
         self.assertLessEqual({id(program) for program in programs}, set(closed))
@@ -188,7 +215,8 @@ class Dives(DiveTest):
 
     def test_in_a_large_plan_rounds_of_prices_follow_each_fixing(self):
         search = self.generated()
-        lower, fixings = search.lower_bound, mock.Mock(side_effect=search._fix)
+        lower = search.lower_bound
+        fixings = mock.Mock(side_effect=search._fix)
         rounds = mock.Mock(side_effect=week_dives.approach)
         with mock.patch.object(week_dives, "approach", rounds), mock.patch.object(
             search, "_fix", fixings
@@ -209,7 +237,9 @@ class Dives(DiveTest):
     def test_a_dive_that_its_time_ends(self):
         search = self.generated()
         search.begin(all_off(search.plan), None)
-        before, pricing, fix = search.penalty, search.pricing, search._fix
+        before = search.penalty
+        pricing = search.pricing
+        fix = search._fix
 
         def end(*words):
             fix(*words)
@@ -228,10 +258,11 @@ class Dives(DiveTest):
             search._chosen(search.solved, left, 0.5, None, in_order) for in_order in (True, False)
         )
         shares = search._shares(search.solved, left)
-        whole = {week for week in left if max(shares[week].values()) > week_dives.WHOLE}
+        whole = {week for week in left if max(shares[week].values()) > 1 - week_dives.WHOLE}
         others = [week for week in left if week not in whole]
         self.assertEqual((some, more), (min(len(others), 30) // 2, len(others) // 2))
-        # In order these are of the first open weeks, as many as there are nurses; without order all that have no other choices are fixed, too.
+        # In order these are of the first open weeks, as many as there are nurses; without order all
+        # that have no other choices are fixed, too.
         self.assertLessEqual(set(ordered) - whole, set(others[:30]))
         self.assertLessEqual(whole, set(free))
         self.assertEqual(len({week.nurse for week in set(free) - whole}), more)
@@ -239,47 +270,11 @@ class Dives(DiveTest):
         weights = [max(shares[week].values()) for week in free][-more:]
         self.assertEqual(weights, sorted(weights, reverse=True))
 
-    def test_a_dive_by_chance_prefers_the_choices_of_the_best_roster(self):
-        search, chance = self.generated(), random.Random(1)
-        off = bytes(7)
-        shares = {off: 0.4, b"\1" + off[1:]: 0.5}
-        search.rows = [off + off] * 30
-        self.assertEqual(list(search._guided(_Week(3, 1), shares).values()), [0.4 * 2.5, 0.5])
-        search.rows = None
-        self.assertEqual(search._guided(_Week(3, 1), shares), shares)
-        left = [_Week(nurse, number) for number in range(2) for nurse in range(30)]
-        of_weeks = search._shares(search.solved, left)
-        # The rows of the smallest shares, which count more only by chance.
-        search.rows = [
-            b"".join(
-                min(week, key=week.__getitem__)
-                for week in (of_weeks[_Week(n, 0)], of_weeks[_Week(n, 1)])
-            )
-            for n in range(30)
-        ]
-        fixed = [
-            search._chosen(search.solved, left, 0.3, seed, False)[0]
-            for seed in (None, None, chance, chance)
-        ]
-        self.assertEqual(fixed[0], fixed[1])
-        self.assertTrue(
-            all(
-                of_weeks[week][choices] == max(of_weeks[week].values())
-                for week, choices in fixed[0].items()
-            )
-        )
-        self.assertFalse(
-            all(
-                of_weeks[week][choices] == max(of_weeks[week].values())
-                for week, choices in fixed[2].items()
-            )
-        )
-        # The order of the weeks is by chance, too.
-        self.assertNotEqual(list(fixed[2]), list(fixed[3]))
-
     def test_a_fixing_that_costs_too_much_is_undone_and_half_of_it_fixed(self):
-        search, fixings = self.generated(), []
-        fix, before = search._fix, search.pricing
+        search = self.generated()
+        fixings = []
+        fix = search._fix
+        before = search.pricing
         left = [_Week(nurse, number) for number in range(2) for nurse in range(30)]
 
         def see(weeks, others):
@@ -299,9 +294,10 @@ class Dives(DiveTest):
         self.assertLess(set(halved.shut), set(fixing.shut))
         search.pricing = before
         search.program.free_all()
-        # No rise is allowed: each fixing of several weeks with other choices is undone, until one is left. In a large plan rounds of prices
-        # show that before the linear program is solved.
-        solve, asked = RowProgram.solve, []
+        # No rise is allowed: each fixing of several weeks with other choices is undone, until one
+        # is left. In a large plan rounds of prices show that before the linear program is solved.
+        solve = RowProgram.solve
+        asked = []
 
         def watched(program, clock, how=PRIMAL):
             asked.append(how)
@@ -329,31 +325,9 @@ class Dives(DiveTest):
             self.assertLess(max(numbers[numbers.index(1) :]), numbers[0] // 2)
             self.assertLess(search.value_of(rows), search.lower_bound + 100)
 
-    def test_with_care_a_fixing_is_undone_that_costs_more_than_a_step(self):
-        search, undone = self.generated(), []
-        halved, relaxed = search._halved, search._relaxed_with
-
-        def undo(fixing):
-            undone.append(fixing.others)
-            return halved(fixing)
-
-        def dearer(near, last, limit, clock):
-            found = relaxed(near, last, math.inf, clock)
-            # Each fixing of several weeks seems to cost a little more than a step.
-            return None if last + week_dives.STEP + 1 > limit else found
-
-        for care in (0, 3):
-            del undone[:]
-            with mock.patch.object(search, "_halved", undo), mock.patch.object(
-                search, "_relaxed_with", dearer
-            ):
-                rows = search.dive(search.clock, 0.3, care=care)
-            self.assertEqual(len(undone), care)
-            self.assertTrue(all(others > 1 for others in undone))
-            self.assertLess(search.value_of(rows), search.lower_bound + 100)
-
     def test_the_next_share(self):
-        steady, rising = 0.0, week_dives.LITTLE_RISE
+        steady = 0.0
+        rising = week_dives.LITTLE_RISE
         self.assertEqual(
             [week_dives._next_share(0.1, most, steady) for most in (0.3, 0.15)], [0.2, 0.15]
         )
@@ -369,7 +343,8 @@ class Dives(DiveTest):
         )
 
     def test_no_row_without_the_fixed_weeks(self):
-        search, fixed = self.generated(), {}
+        search = self.generated()
+        fixed = {}
         keep = search._fix
 
         def see(weeks, others):
@@ -389,7 +364,9 @@ class Dives(DiveTest):
         )
 
     def test_weeks_without_other_choices_by_chance(self):
-        search, whole, week = self.generated(), _Week(3, 1), _Week(4, 1)
+        search = self.generated()
+        whole = _Week(3, 1)
+        week = _Week(4, 1)
         search.rows = [OFF * 2] * 30
         with mock.patch.object(
             search, "_shares", return_value={whole: {EARLY: 1.0}, week: {EARLY: 0.3, OFF: 0.7}}
@@ -398,15 +375,6 @@ class Dives(DiveTest):
                 search.solved, [whole, week], 0.3, random.Random(1), False
             )
         self.assertEqual((list(weeks), others), ([whole, week], 1))
-
-    def test_by_chance_choices_of_the_best_roster_are_fixed(self):
-        search, week, more, kept = self.generated(), _Week(3, 1), EARLY, OFF
-        search.rows = [OFF * 2] * 30
-        with mock.patch.object(search, "_shares", return_value={week: {more: 0.5, kept: 0.45}}):
-            for chance, choices in ((None, more), (random.Random(1), kept)):
-                self.assertEqual(
-                    search._chosen(search.solved, [week], 0.3, chance, False), ({week: choices}, 1)
-                )
 
     def test_parts_apart_have_processes(self):
         parts = RowParts(search_of(1), [self.solver], apart=True)
@@ -445,59 +413,48 @@ class Columns(unittest.TestCase):
 
 
 class NextDives(unittest.TestCase):
-    def test_each_thread_begins_a_period_with_a_dive_and_half_of_them_a_long_one(self):
-        for few, firsts in ((4, 2), (1, 1)):
-            with mock.patch.object(row_parts, "FEW_WEEKS", few):
-                parts = RowParts(search_of(2), [None, None])
-            self.assertEqual(
-                [parts._is_due(number, 0.0, 0) for number in range(2)], [True, firsts == 2]
-            )
+    def tasks(self, number, better=()):
+        """The first eight dives and windows of a thread, of which these find a better roster."""
+        tasks = []
+        clock = Clock(LONG)
+        search = search_of(2)
 
-    def test_later_dives_have_a_part_of_the_work(self):
-        parts = RowParts(search_of(2), [None, None])
-        self.assertEqual(
-            [parts._is_due(1, dived, 1000) for dived in (2000, 2001, math.inf)],
-            [True, False, False],
-        )
-        with mock.patch.object(row_parts, "FEW_WEEKS", 1):
-            self.assertFalse(RowParts(search_of(2), [None])._is_due(0, 1, 10**9))
-        week = search_of(1)
-        week.bound = (week.penalty - 5) * POINT
-        self.assertFalse(RowParts(week, [None])._is_due(0, 0.0, 1000))
+        def see(_clock, _take, task, *_rows):
+            search.penalty -= 5 if len(tasks) in better else 0
+            tasks.append(task)
+            if len(tasks) == 8:
+                clock.stop()
+            return Done(False)
 
-    def test_only_the_first_dive_of_the_first_thread_has_no_chance(self):
-        for number, steady in ((0, [True, False, False]), (1, [False] * 3)):
-            parts, dives, clock = RowParts(search_of(2), [None, None]), [], Clock(LONG)
+        parts = RowParts(search, [None, None])
+        for searcher in parts._searches.values():
+            self.enterContext(mock.patch.multiple(searcher, dive=see, improve=see))
+        with self.assertRaises(TimeIsOver):
+            parts._work(None, clock, number)
+        return tasks
 
-            def dive(_solver, _clock, task):
-                dives.append(task)
-                if len(dives) == 3:
-                    clock.stop()
-                return [], 1
+    def test_in_a_short_period_windows_come_after_dives_in_vain(self):
+        for better, dives in (((), 2), ((0, 2), 5)):
+            kinds = [type(task) for task in self.tasks(0, better)]
+            self.assertEqual(kinds, [Dive] * dives + [Window] * (8 - dives))
 
-            with mock.patch.object(parts, "_dive", dive), mock.patch.object(
-                parts, "improve", lambda *_: Done(True, 10)
-            ):
-                with self.assertRaises(TimeIsOver):
-                    parts._work(None, clock, number)
-            self.assertEqual(
-                [(task.seed is None, task.penalty) for task in dives],
-                [(one, parts._search.penalty) for one in steady],
-            )
-            self.assertEqual(
-                [task.share for task in dives if task.seed is None], [0.3] * steady.count(True)
-            )
-            self.assertTrue(all(task.share in (0.3, 0.2, 0.4) for task in dives))
+    def test_every_second_dive_begins_at_another_solution(self):
+        dives = self.tasks(0, range(8))
+        self.assertEqual([dive.seed is None for dive in dives], [True] + [False] * 7)
+        # Neither beginning ends lower everywhere.
+        self.assertEqual([dive.is_apart for dive in dives], [False, True] * 4)
+        self.assertTrue(all(dive.share in (0.3, 0.2, 0.4) for dive in dives))
 
-    def test_every_second_thread_fixes_one_week_after_another_and_in_a_long_period_each_one(self):
-        for few, in_order in ((4, [False, True, False]), (1, [True] * 3)):
-            with mock.patch.object(row_parts, "FEW_WEEKS", few):
-                parts = RowParts(search_of(2), [None] * 3)
-            for is_first, penalty in ((True, 1000), (False, 1000), (False, None)):
-                self.assertEqual(
-                    [parts._dive_of(number, is_first, penalty).in_order for number in range(3)],
-                    in_order,
-                )
+    def test_in_a_long_period_windows_come_between_dives(self):
+        with mock.patch.object(windows, "WEEKS", 1), mock.patch.object(plan, "FEW_WEEKS", 1):
+            first, second = (self.tasks(number) for number in range(2))
+        # Half of the threads begin with a dive, because it takes long.
+        for tasks, dives in ((first, 1), (second, 0)):
+            kinds = [type(task) for task in tasks]
+            self.assertEqual(kinds, [*[Dive] * dives, *[Window] * 4, *[Dive] * (4 - dives)])
+            some = tasks[dives : dives + 4]
+            self.assertEqual([task.seed is None for task in some], [True, True, False, False])
+            self.assertEqual({task.days for task in some[:2]}, {range(7), range(7, 14)})
 
 
 if __name__ == "__main__":

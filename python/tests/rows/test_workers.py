@@ -1,4 +1,5 @@
-"""Tests of processes that search parts: they find what this process finds, and cost only time if they end, hang or lie."""
+"""Tests of processes that search parts: they find what this process finds, and cost only time if
+they end, hang or lie."""
 
 import os
 import signal
@@ -14,18 +15,21 @@ from ward import ENOUGH, HAS_CBC, HelperTest
 from inrc2pb.programs.clock import Clock, TimeIsOver
 from inrc2pb.programs.processes import Processes
 from inrc2pb.rows import workers
-from inrc2pb.rows.part_search import Dive, Done, Part, PartSearch
+from inrc2pb.rows.part_search import Dive, Done, PartSearch
+from inrc2pb.rows.windows import Window
 from inrc2pb.solvers.answers import MAX_FAULTS, SolverFault
 from inrc2pb.solvers.linear_solvers import LinearSolver
 
-PART = Part(tuple(range(0, 30, 3)), range(2, 6))
+WINDOW = Window(range(2, 6), None)
 
 
 @unittest.skipUnless(HAS_CBC, "needs cbc")
 class Workers(HelperTest):
     def setUp(self):
         super().setUp()
-        self.search, self.found, self.processes = search_of(1), [], Processes()
+        self.search = search_of(1)
+        self.found = []
+        self.processes = Processes()
         self.solver = LinearSolver(self.processes, self.folder, self.fail)
         known = self.search.known()._replace(program=self.search.program)
         self.own = PartSearch(self.search.pricing, known, self.solver)
@@ -40,7 +44,7 @@ class Workers(HelperTest):
     def improve(self, searcher, seconds=LONG):
         """What a search finds in the part, and how it ends."""
         self.found = []
-        return searcher.improve(Clock(seconds), self.take, PART, self.search.rows), self.found
+        return searcher.improve(Clock(seconds), self.take, WINDOW, self.search.rows), self.found
 
     def instead(self, script):
         """A process that does this in place of tasks."""
@@ -48,7 +52,7 @@ class Workers(HelperTest):
 
     def test_a_process_finds_the_same(self):
         done, found = self.improve(self.own)
-        self.assertTrue(done.ended and done.work and found)
+        self.assertTrue(found)
         for _ in range(2):
             self.assertEqual(self.improve(self.worker), (done, found))
 
@@ -56,10 +60,10 @@ class Workers(HelperTest):
         for task in (
             Dive(0.12, True, None, None),
             Dive(0.06, False, 5, None),
-            Dive(0.06, True, 5, None, self.search.rows),
         ):
             self.found = []
-            done, own = self.own.dive(Clock(LONG), self.take, task), self.found
+            done = self.own.dive(Clock(LONG), self.take, task)
+            own = self.found
             self.found = []
             self.assertEqual(
                 (self.worker.dive(Clock(LONG), self.take, task), self.found), (done, own)
@@ -75,7 +79,9 @@ class Workers(HelperTest):
             with self.subTest(script=script), self.instead(script):
                 [worker] = workers.workers(self.search.known(), [self.solver])
                 for _ in range(2):
-                    with self.assertRaisesRegex(SolverFault, "a process of the search fails"):
+                    with self.assertRaisesRegex(
+                        SolverFault, "processes of the search end .* once more"
+                    ):
                         self.improve(worker)
                 self.assertEqual((worker._faults, worker._running, self.found), (3, None, []))
 
@@ -91,7 +97,7 @@ class Workers(HelperTest):
             workers, "GRACE", 0.1
         ):
             began = time.monotonic()
-            self.assertEqual(self.improve(self.worker, 0.5), (Done(False, 0), []))
+            self.assertEqual(self.improve(self.worker, 0.5), (Done(False), []))
         self.assertLess(time.monotonic() - began, ENOUGH)
         self.assertEqual(self.processes._running, {})
 
@@ -104,7 +110,7 @@ class Workers(HelperTest):
 
         with self.instead("import time; time.sleep(1000)"):
             threading.Timer(0.3, stop).start()
-            self.assertFalse(self.worker.improve(clock, self.take, PART, self.search.rows).ended)
+            self.assertFalse(self.worker.improve(clock, self.take, WINDOW, self.search.rows).ended)
         self.worker.end()
         self.assertEqual(self.processes._running, {})
 

@@ -29,6 +29,8 @@ from inrc2pb.week.records import Absence, KeptLimit
 FAKE = Path(__file__).resolve().parents[1] / "fake_prover.py"
 SECOND = WARD / "week-1.txt"
 OPTIONS = ("--sce", SCENARIO, "--his", HISTORY, "--week", WEEK, "--week", SECOND)
+# The seconds in which a stopped search ends, also on a busy machine: a proof may take sixty.
+SOON = 40
 FAILED = f"{PROVER} failed, so bounds are computed in {PLAIN}: "
 CASES = Path(__file__).resolve().parents[1] / "data" / "cases"
 CASES_FILES = WeekFiles(CASES / "ward.txt", CASES / "history.txt", CASES / "week.txt")
@@ -46,7 +48,8 @@ class FakeProver(HelperTest):
 
     def setUp(self):
         super().setUp()
-        self.log, self.warnings = self.folder / "log.txt", []
+        self.log = self.folder / "log.txt"
+        self.warnings = []
 
     def prover(self, how):
         """The program that behaves so."""
@@ -74,9 +77,8 @@ class Options(HelperTest):
         self.assertEqual(weeks.options(), [*map(str, OPTIONS), "--fix", f"2={fix}", "--early"])
 
     def test_the_facts_of_a_plan(self):
-        ward, past = files.read_scenario(SCENARIO), files.read_history(
-            HISTORY, files.read_scenario(SCENARIO)
-        )
+        ward = files.read_scenario(SCENARIO)
+        past = files.read_history(HISTORY, files.read_scenario(SCENARIO))
         full = ward.contracts["Full"].assignments.maximum
         worked = replace(past.nurses["Amara"], assignments=full + 2)
         past = replace(past, nurses={**past.nurses, "Amara": worked})
@@ -135,8 +137,16 @@ class Proofs(FakeProver):
         self.assertEqual(given["texts"], {"--proof": run.certificate().text("ward")})
         self.assertEqual(self.target.read_text(), run.certificate().text("ward"))
 
+    def test_leaves_are_priced_in_the_time_that_is_left(self):
+        # The search kept an absence, and the bound is that of all rosters, so leaves are priced.
+        run = self.certified(self.away)
+        self.assertIsNone(self.bounds(None).of(run, FREE, 0.0))
+        said = "the certificate takes more than 0 s to price in plain Python, so there is no bound"
+        self.assertEqual(self.warnings, [said])
+
     def test_a_temporary_folder_that_is_gone_costs_no_bound(self):
-        run, found = self.certified(self.free), self.bounds("50")
+        run = self.certified(self.free)
+        found = self.bounds("50")
         gone = FileNotFoundError(2, "No usable temporary directory found")
         with mock.patch.object(bounds.tempfile, "TemporaryDirectory", side_effect=gone):
             self.assertEqual(found.of(run, STRICT, 60.0), Bound(run.lower_bound, PLAIN))
@@ -260,7 +270,8 @@ class Commands(FakeProver):
 
     def test_the_end_of_the_time_ends_the_program_some_seconds_later(self):
         self.prover("hang")
-        told, prove = self.folder / "seconds", Bounds.of
+        told = self.folder / "seconds"
+        prove = Bounds.of
 
         def proves(own, run, keeping, seconds):
             told.write_text(str(seconds))
@@ -274,24 +285,37 @@ class Commands(FakeProver):
             printed.splitlines()[-1], f"^lower bound [0-9]+ of the sum \\({PLAIN}\\): "
         )
 
-    def test_a_stop_ends_the_program(self):
+    def stopped(self, number, *words):
+        """The status and the report of a search that gets this signal while its bound is proved,
+        which takes longer than the search waits."""
         self.prover("hang")
-        command = [sys.executable, str(HELPERS / "inrc2pb-solve"), *map(str, self.words)]
+        self.log.unlink(missing_ok=True)
+        command = [sys.executable, str(HELPERS / "inrc2pb-solve"), *map(str, words)]
         environment = {**os.environ, **self.environment}
         with subprocess.Popen(
             command, stdout=subprocess.PIPE, stderr=subprocess.PIPE, env=environment
-        ) as period:
+        ) as search:
             self.given()
-            self.assertTrue((self.folder / "out" / "roster-1.txt").exists())
-            period.send_signal(signal.SIGINT)
-            printed, said = period.communicate(timeout=ENOUGH)
-        self.assertEqual(period.returncode, 130, said)
-        *_, line, stopped = printed.decode().splitlines()
-        self.assertRegex(line, f"^lower bound [0-9]+ of the sum \\({PLAIN}\\): ")
-        self.assertEqual(stopped, "stopped: weeks 1 to 2 are planned")
+            search.send_signal(number)
+            printed, said = search.communicate(timeout=SOON)
         self.assertNotIn(b"failed", said)
         process = Path("/proc", str(self.given()["process"]), "cmdline")
         self.assertFalse(process.exists() and b"fake_prover" in process.read_bytes())
+        return search.returncode, printed.decode().splitlines()
+
+    def test_a_stop_ends_the_proof_of_a_period(self):
+        for number in (signal.SIGINT, signal.SIGTERM):
+            status, (*_, line, stopped) = self.stopped(number, *self.words)
+            self.assertEqual(status, 128 + number)
+            self.assertTrue((self.folder / "out" / "roster-1.txt").exists())
+            self.assertRegex(line, f"^lower bound [0-9]+ of the sum \\({PLAIN}\\): ")
+            self.assertEqual(stopped, "stopped: weeks 1 to 2 are planned")
+
+    def test_a_stop_ends_the_proof_of_a_week(self):
+        words = (*WEEK_FILES.options(), "--out", self.folder / "best.txt", "--time", ENOUGH)
+        status, printed = self.stopped(signal.SIGTERM, *words)
+        self.assertEqual(status, 0)
+        self.assertIn(f"lower bound 20 ({PLAIN})", printed)
 
     def test_files_of_certificates_that_do_not_fit(self):
         for words, says in (
@@ -315,7 +339,10 @@ class Commands(FakeProver):
             "--proof",
             self.proof,
         )
-        says = f"inrc2pb-solve: {self.proof} is read, so the certificate cannot be written to it: choose another file"
+        says = (
+            f"inrc2pb-solve: {self.proof} is read, so the certificate cannot be written to it:"
+            " choose another file"
+        )
         self.assert_fault(run("solve", *words), says)
 
 

@@ -1,5 +1,5 @@
-"""Tests of `inrc2pb-solve` while others change its files: inputs that are edited, rosters that others write, and files that may not be
-written."""
+"""Tests of `inrc2pb-solve` while others change its files: inputs that are edited, rosters that
+others write, and files that may not be written."""
 
 import os
 import shutil
@@ -21,27 +21,29 @@ from ward import (
     WEEK,
     WEEK_FILES,
     WEEK_OPTIONS,
+    ROOT,
     HelperTest,
     program,
     run,
 )
 
 from inrc2pb.search.bounds import find_prover
+from inrc2pb.search.plan_folder import PlanFolder
+from inrc2pb.search.planned_weeks import PeriodFiles, PlannedWeeks
 
 NOBODY = 65534
 CHANGED = "{} was changed during the search: this is about the old one"
 
 
 class ChangingFiles(HelperTest):
-    """A search for the ward's week, whose files are in the test's folder. The roster of the example costs 20, `worse` costs 110."""
+    """A search for the ward's week, whose files are in the test's folder. The roster of the example
+    costs 20, `worse` costs 110."""
 
     def setUp(self):
         super().setUp()
-        self.week, self.target, self.worse = (
-            self.folder / "week-0.txt",
-            self.folder / "best.txt",
-            self.swapped("Amara", "Bruno"),
-        )
+        self.week = self.folder / "week-0.txt"
+        self.target = self.folder / "best.txt"
+        self.worse = self.swapped("Amara", "Bruno")
         shutil.copy(WEEK, self.week)
         self.options = (*WEEK_OPTIONS[:4], "--week", self.week)
         # Many more wishes, so that each roster costs more.
@@ -72,7 +74,8 @@ class ChangingFiles(HelperTest):
         return self.script("solver.sh", "\n".join(map(str, commands)) + "\n")
 
     def program_that_first(self, command):
-        """The environment of an `inrc2pb` that runs this command of a shell before its first `extend`."""
+        """The environment of an `inrc2pb` that runs this command of a shell before its first
+        `extend`."""
         tools = self.folder / "tools"
         tools.mkdir(exist_ok=True)
         if find_prover():
@@ -163,7 +166,8 @@ class Inputs(ChangingFiles):
 
     @unittest.skipUnless(HAS_CBC, "needs cbc")
     def test_a_week_of_a_period_that_is_edited(self):
-        second, out = self.folder / "week-1.txt", self.folder / "out"
+        second = self.folder / "week-1.txt"
+        out = self.folder / "out"
         shutil.copy(WARD / "week-1.txt", second)
         environment = self.program_that_first(f"cp {self.edited} {second}")
         words = (*self.options, "--week", second, "--out", out, "--time", ENOUGH)
@@ -178,7 +182,8 @@ class Inputs(ChangingFiles):
         self.assertEqual(int(sums[1]), sum(penalties))
 
     def test_a_week_of_a_period_that_is_edited_while_a_solver_runs(self):
-        second, out = self.folder / "week-1.txt", self.folder / "out"
+        second = self.folder / "week-1.txt"
+        out = self.folder / "out"
         shutil.copy(WARD / "week-1.txt", second)
         solver = self.solver(f"cp {self.edited} {second}", f"cat {self.answer(ROSTER)}")
         status, printed, said = run(
@@ -221,7 +226,10 @@ class Rosters(ChangingFiles):
         self.assertEqual((status, self.target.read_text()), (0, ROSTER.read_text()), said)
         self.assertIn("penalty 20\n", report)
         self.assertIn(
-            f"{self.target} has a better roster than this search, which is kept: its penalty is 20\n",
+            (
+                f"{self.target} has a better roster than this search, which is kept: its penalty is"
+                " 20\n"
+            ),
             said,
         )
 
@@ -247,7 +255,10 @@ class Rosters(ChangingFiles):
                 self.assertIn("penalty 20\n", report)
                 self.assertEqual(program.penalty_of(WEEK_FILES, self.target), 20)
                 self.assertIn(
-                    f"{self.target} was changed during the search: it has the roster of the search again\n",
+                    (
+                        f"{self.target} was changed during the search: it has the roster of the"
+                        " search again\n"
+                    ),
                     said,
                 )
 
@@ -268,6 +279,22 @@ class Rosters(ChangingFiles):
                 self.assertIn("penalty 20\n", report)
                 self.assertIn(says, said)
 
+    def test_a_link_to_an_input_in_place_of_the_roster_is_not_followed(self):
+        solver = self.solver(f"ln -sf {self.week} {self.target}", f"cat {self.answer(ROSTER)}")
+        status, _, said = self.solve("--solver", solver)
+        self.assertEqual((status, self.week.read_bytes()), (1, WEEK.read_bytes()), said)
+        self.assertIn(
+            f"{self.week} is read, so the roster cannot be written to it: choose another file", said
+        )
+
+    def test_a_link_to_an_input_in_place_of_a_roster_of_a_period(self):
+        out = self.folder / "out"
+        words = (*self.options, "--week", WARD / "week-1.txt", "--time", ENOUGH, "--out", out)
+        linked = self.program_that_first(f"/bin/ln -s {self.week} {out}/roster-1.txt")
+        status, _, said = run("solve", *words, environment=linked)
+        self.assertEqual((status, self.week.read_bytes()), (1, WEEK.read_bytes()), said)
+        self.assertIn(f"{self.week} is read, so the roster cannot be written to it", said)
+
     def test_a_solver_that_writes_the_roster_itself(self):
         solver = self.solver(f"echo garbage > {self.target}", f"cat {self.answer(ROSTER)}")
         status, report, said = self.solve("--solver", solver)
@@ -277,7 +304,8 @@ class Rosters(ChangingFiles):
     @unittest.skipUnless(HAS_CBC, "needs cbc")
     def test_a_better_plan_of_another_program_is_kept(self):
         words = (*WEEK_OPTIONS, "--week", WARD / "week-1.txt", "--time", ENOUGH, "--out")
-        good, out = self.folder / "good", self.folder / "out"
+        good = self.folder / "good"
+        out = self.folder / "out"
         self.assertEqual(run("solve", *words, good)[0], 0)
         # Without a solver there is a first plan only.
         first = {
@@ -289,7 +317,10 @@ class Rosters(ChangingFiles):
         for name in ("roster-0.txt", "roster-1.txt", "history-1.txt"):
             self.assertEqual((out / name).read_text(), (good / name).read_text())
         self.assertIn(
-            "there is a better plan than that of this search in its folder, which is kept: its penalty is ",
+            (
+                "there is a better plan than that of this search in its folder, which is kept: its"
+                " penalty is "
+            ),
             said,
         )
 
@@ -327,10 +358,14 @@ class Rosters(ChangingFiles):
 class Locks(ChangingFiles):
     def running(self, *words):
         """A search that waits for the file `go`, and then finds the roster of the example."""
-        running, go = self.folder / "running", self.folder / "go"
+        running = self.folder / "running"
+        go = self.folder / "go"
         slow = self.script(
             "slow.sh",
-            f"touch {running}\nwhile ! [ -e {go} ]; do sleep 0.1; done\ncat {self.answer(ROSTER)}\n",
+            (
+                f"touch {running}\nwhile ! [ -e {go} ]; do sleep 0.1; done\ncat"
+                f" {self.answer(ROSTER)}\n"
+            ),
         )
         command = [
             sys.executable,
@@ -353,7 +388,10 @@ class Locks(ChangingFiles):
 
     def test_a_second_run_on_one_file_says_so(self):
         first = self.running("--out", self.target)
-        line = f"inrc2pb-solve: another search writes {self.target}: wait until it has ended (--wait), or choose another file"
+        line = (
+            f"inrc2pb-solve: another search writes {self.target}: wait until it has ended (--wait),"
+            " or choose another file"
+        )
         self.assert_fault(
             self.solve("--solver", self.solver(f"cat {self.answer(self.worse)}")), line, 2
         )
@@ -387,7 +425,10 @@ class Locks(ChangingFiles):
         said = second.stderr.readline()
         self.assertEqual(
             said.decode(),
-            f"inrc2pb-solve: another search writes {self.target}: this one waits until it has ended\n",
+            (
+                f"inrc2pb-solve: another search writes {self.target}: this one waits until it has"
+                " ended\n"
+            ),
         )
         (self.folder / "go").touch()
         report, _ = second.communicate(timeout=ENOUGH)
@@ -423,7 +464,10 @@ class Locks(ChangingFiles):
         second = ("--week", WARD / "week-1.txt")
         self.options = (*self.options, *second)
         self.running("--out", out)
-        line = f"another search writes {out / 'roster-0.txt'}: wait until it has ended (--wait), or choose another file"
+        line = (
+            f"another search writes {out / 'roster-0.txt'}: wait until it has ended (--wait), or"
+            " choose another file"
+        )
         self.assert_fault(
             run("solve", *self.options, "--out", out, "--time", ENOUGH), f"inrc2pb-solve: {line}", 2
         )
@@ -455,7 +499,10 @@ class Protected(ChangingFiles):
         history = self.folder / "history.txt"
         shutil.copy(HISTORY, history)
         history.chmod(0o444)
-        says = f"{self.target}: Permission denied: you may not read or write it: look at its permissions"
+        says = (
+            f"{self.target}: Permission denied: you may not read or write it: look at its"
+            " permissions"
+        )
         for command, words in (
             (
                 "solve",
@@ -476,6 +523,27 @@ class Protected(ChangingFiles):
                 status, said = self.as_user(command, *words)
                 self.assertEqual((status, self.target.read_text()), (3, text), said)
                 self.assertIn(says, said)
+
+
+class Folders(HelperTest):
+    def test_a_folder_that_is_removed_is_made_again(self):
+        month = ROOT / "examples" / "month"
+        period = PeriodFiles(month / "ward.txt", month / "history-0.txt", [month / "week-0.txt"])
+        home = self.folder / "plan"
+        warnings = []
+        folder = PlanFolder(PlannedWeeks(period), home, warnings.append, period.all())
+        for again in (lambda: folder.keep([]), lambda: folder.keep([]), folder.written):
+            shutil.rmtree(home, ignore_errors=True)
+            again()
+            self.assertTrue((home / "roster-0.txt").is_file())
+        self.assertIn("the folder has the plan of the search again", warnings[-1])
+
+    def test_days_of_a_plan_that_others_write_count_from_its_first_week(self):
+        ward = ROOT / "examples" / "ward"
+        period = PeriodFiles(ward / "ward.txt", ward / "history-1.txt", [ward / "week-1.txt"])
+        folder = PlanFolder(PlannedWeeks(period), self.folder, self.fail, period.all())
+        self.solution("Chen Mon Day Nurse", "Grace Sun Late Nurse", week=1, name="roster-1.txt")
+        self.assertEqual([cell.day for cell in folder.others()], [0, 6])
 
 
 if __name__ == "__main__":

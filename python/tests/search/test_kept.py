@@ -1,4 +1,5 @@
-"""Tests of absences and limits that are given as facts: which weeks of a nurse keep them, what a roster has above them, and searches."""
+"""Tests of absences and limits that are given as facts: which weeks of a nurse keep them, what a
+roster has above them, and searches."""
 
 import itertools
 import unittest
@@ -43,7 +44,8 @@ from inrc2pb.week.records import (
     WeekData,
 )
 
-WARD, DATA = files.read_scenario(SCENARIO), files.read_week(WEEK, files.read_scenario(SCENARIO))
+WARD = files.read_scenario(SCENARIO)
+DATA = files.read_week(WEEK, files.read_scenario(SCENARIO))
 ALL_LIMITS = frozenset(
     {
         KeptLimit("Ann", "WORK_DAYS", 0),
@@ -54,7 +56,8 @@ ALL_LIMITS = frozenset(
 
 
 def ann(past, weeks=4, limits=ALL_LIMITS, absences=(), work=3, shifts=6, weekends=1):
-    """The last week of a ward of one nurse, who has Day and Night, at most `work` days in a row, `shifts` and `weekends`."""
+    """The last week of a ward of one nurse, who has Day and Night, at most `work` days in a row,
+    `shifts` and `weekends`."""
     types = {
         "Day": ShiftType("Day", Limits(1, 9), ()),
         "Night": ShiftType("Night", Limits(1, 9), ("Day",)),
@@ -77,7 +80,8 @@ def ann(past, weeks=4, limits=ALL_LIMITS, absences=(), work=3, shifts=6, weekend
 
 def kept_by(shifts, past, absences, work, total, weekends):
     """Whether the shifts of a week keep these absences and limits, by counting."""
-    run, in_row = past.working_days, 0
+    run = past.working_days
+    in_row = 0
     for shift in shifts:
         run = run + 1 if shift else 0
         in_row = max(in_row, run if shift else 0)
@@ -119,7 +123,8 @@ class Rows(unittest.TestCase):
         past = NurseHistory("Ann", 4, 1, None, 0, 0, 1)
         week = ann(past, absences=[Absence("Ann", 0, None)])
         plan = Plan.of(week.scenario, week.history, [week.data])
-        # Monday to Thursday and Sunday: one absence, one day above 3 in a row, 9 shifts of 6, and 2 weekends of 1.
+        # Monday to Thursday and Sunday: one absence, one day above 3 in a row, 9 shifts of 6, and 2
+        # weekends of 1.
         row = bytes((1, 1, 1, 1, 0, 0, 1))
         costs = [
             Pricing(one, Crews(one), lambda: None).cost(0, row)
@@ -146,8 +151,10 @@ class Above(unittest.TestCase):
             (
                 ALL_LIMITS,
                 4,
-                "Ann has 4 days of work in a row, to Wed, of at most 3, "
-                "Ann has 8 shifts of at most 6, above on Wed and Sun, Ann has 2 weekends of at most 1, above on Sun",
+                (
+                    "Ann has 4 days of work in a row, to Wed, of at most 3, Ann has 8 shifts of at"
+                    " most 6, above on Wed and Sun, Ann has 2 weekends of at most 1, above on Sun"
+                ),
             ),
             ({KeptLimit("Ann", "SHIFTS", 1)}, 1, "Ann has 8 shifts of at most 6, above on Sun"),
             ({KeptLimit("Ann", "SHIFTS", 2)}, 0, ""),
@@ -167,7 +174,10 @@ class Above(unittest.TestCase):
         )
         # Full has at most 21 shifts, Half 11, and nobody has worked before this week.
         others = "Amara (21), Bruno (21), Chen (21), Dilek (21), Finn (11) and Grace (21)"
-        wanted = f"lower minimum numbers, hold fewer shifts, or allow these nurses more; with these skills shifts are left for {others}"
+        wanted = (
+            "lower minimum numbers, hold fewer shifts, or allow these nurses more; with these"
+            f" skills shifts are left for {others}"
+        )
         self.assertEqual(limits_way_out(week, found, cells), wanted)
 
 
@@ -265,7 +275,8 @@ class Commands(HelperTest):
         given = self.give(Claim(Choice(1, *off, None)))
         reasons = self.folder / "reasons.txt"
         reasons.write_text(
-            f"REASONS\nward\n\nROWS = 1\n1 {off[0]} {('Mon', 'Tue', 'Wed', 'Thu', 'Fri', 'Sat', 'Sun')[off[1]]} leave\n"
+            "REASONS\nward\n\nROWS = 1\n1"
+            f" {off[0]} {('Mon', 'Tue', 'Wed', 'Thu', 'Fri', 'Sat', 'Sun')[off[1]]} leave\n"
         )
         words = (*WEEK_OPTIONS, *given, "--reasons", reasons, "--roster", ROSTER)
         self.assertIn(" leave ", run("roster", "show", *words)[1])
@@ -282,7 +293,10 @@ class Commands(HelperTest):
             "inrc2pb-roster: --given needs --sce and --week: give them too",
         )
         wrong = self.give(Claim(Choice(2, "Chen", 4, "Day")))
-        line = f"{self.facts}: 'HOLDS CHOICE 2 Chen Fri Day' is neither an absence nor a limit of a nurse: remove it"
+        line = (
+            f"{self.facts}: 'HOLDS CHOICE 2 Chen Fri Day' is neither an absence nor a limit of a"
+            " nurse: remove it"
+        )
         self.assert_fault(
             run("solve", *WEEK_OPTIONS, *wrong, "--out", self.folder / "r.txt", "--time", ENOUGH),
             f"inrc2pb-solve: {line}",
@@ -312,8 +326,8 @@ class Commands(HelperTest):
 
     @unittest.skipUnless(HAS_CBC, "needs cbc")
     def test_absences_come_before_limits(self):
-        # Three nurses have Charge, which one has to have on each day: with two of them away from Monday to Saturday Ewa works six days in
-        # a row, and her contract allows three.
+        # Three nurses have Charge, which one has to have on each day: with two of them away from
+        # Monday to Saturday Ewa works six days in a row, and her contract allows three.
         away = [
             Claim(Choice(1, nurse, day, None)) for nurse in ("Amara", "Bruno") for day in range(6)
         ]
@@ -322,11 +336,17 @@ class Commands(HelperTest):
         status, _, said = run("solve", *WEEK_OPTIONS, *given, "--out", target, "--time", ENOUGH)
         self.assertEqual(status, 0, said)
         self.assertIn(
-            "no roster was found that keeps every limit: Ewa has 6 days of work in a row, Mon to Sat, of at most 3\n",
+            (
+                "no roster was found that keeps every limit: Ewa has 6 days of work in a row, Mon"
+                " to Sat, of at most 3\n"
+            ),
             said,
         )
         self.assertIn(
-            "lower minimum numbers, hold fewer shifts, or allow these nurses more; nobody with these skills has shifts left",
+            (
+                "lower minimum numbers, hold fewer shifts, or allow these nurses more; nobody with"
+                " these skills has shifts left"
+            ),
             said,
         )
         self.assertFalse(
@@ -342,14 +362,18 @@ class Commands(HelperTest):
         )
         self.assertEqual(status, 0, said)
         self.assertIn(
-            "week 1: no plan was found that keeps every limit: Ewa has 6 days of work in a row, Mon to Sat, of at most 3\n",
+            (
+                "week 1: no plan was found that keeps every limit: Ewa has 6 days of work in a row,"
+                " Mon to Sat, of at most 3\n"
+            ),
             said,
         )
         self.assertNotIn("absence", said)
 
     @unittest.skipUnless(HAS_CBC, "needs cbc")
     def test_a_period_keeps_totals(self):
-        # Both weeks ask for 26 shifts at least; nobody may have more than eight in two weeks, which makes 56.
+        # Both weeks ask for 26 shifts at least; nobody may have more than eight in two weeks, which
+        # makes 56.
         few = self.changed(SCENARIO, "WEEKS = 4", "WEEKS = 2", "few.txt")
         few.write_text(
             few.read_text()

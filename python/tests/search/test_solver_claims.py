@@ -1,4 +1,5 @@
-"""Tests of the referee: verdicts on claims, answers of solvers that lie, and `inrc2pb-solve --solver` with them."""
+"""Tests of the referee: verdicts on claims, answers of solvers that lie, and
+`inrc2pb-solve --solver` with them."""
 
 import re
 import shutil
@@ -88,6 +89,11 @@ class Verdicts(unittest.TestCase):
                 "constraint 5 is not satisfied",
             ),
             (
+                Answered(fault="answer: bad literal", is_readable=False),
+                Kind.UNREADABLE,
+                "answer: bad literal",
+            ),
+            (
                 Answered("OPTIMUM FOUND", 20, 20, 10),
                 Kind.LIE,
                 "it says that its answer costs 10, but it costs 20",
@@ -140,7 +146,7 @@ class Referees(HelperTest):
             "lie: it says that its answer costs 1, but it costs 110",
             # The unit variable, which is not true in this answer, is the first constraint.
             "lie: constraint 1 is not satisfied",
-            "lie: answer: bad literal",
+            "unreadable: answer: bad literal",
             f"refuted: it claims that no roster exists, and {target} costs 20",
             "no claim: UNKNOWN",
         )
@@ -164,12 +170,16 @@ class Referees(HelperTest):
             self.assertEqual((status, printed.splitlines()[1]), (0, f"{answer}: {verdict}"), said)
 
     def test_a_certificate_takes_the_place_of_the_search(self):
-        proof, answer = FIVE / "certificate.txt", FIVE / "answers" / "clasp-optimum.txt"
+        proof = FIVE / "certificate.txt"
+        answer = FIVE / "answers" / "clasp-optimum.txt"
         status, printed, said = run(
             "roster", "referee", *FIVE_OPTIONS, "--answer", answer, "--proof", proof
         )
         self.assertEqual((status, said.count("bound")), (0, 0), said)
-        lines = f"lower bound 320 ({PROVER}), best roster 320 (the roster of {answer})\n{answer}: confirmed: no roster costs less than 320\n"
+        lines = (
+            f"lower bound 320 ({PROVER}), best roster 320 (the roster of {answer})\n{answer}:"
+            " confirmed: no roster costs less than 320\n"
+        )
         self.assertEqual(printed, lines)
 
     def test_a_known_roster_refutes_a_claim(self):
@@ -204,6 +214,11 @@ class Referees(HelperTest):
         self.assertEqual((status, printed), (6, ""))
         self.assertIn(f"{broken} line 6: roster breaks H1: Amara has two places on Tue", said)
 
+    def test_an_answer_that_is_a_device(self):
+        zero = ("--answer", ROSTER, "/dev/zero", "--proof", FIVE / "certificate.txt")
+        says = "/dev/zero is a device, which may have no end: give a file"
+        self.assert_fault(run("roster", "referee", *FIVE_OPTIONS, *zero), f"inrc2pb-roster: {says}")
+
 
 class OwnSolvers(HelperTest):
     """Claims of a user's own solver about the ward's week, whose best roster costs 20."""
@@ -233,7 +248,8 @@ class OwnSolvers(HelperTest):
         return program.answer_with(WEEK_FILES, roster).replace("s SATISFIABLE", f"s {status}")
 
     def with_a_slack(self, roster):
-        """The answer of a roster with all slacks that are not needed, of which each costs points."""
+        """The answer of a roster with all slacks that are not needed, of which each costs
+        points."""
         model = self.folder / "week.opb"
         program.encode(WEEK_FILES, model)
         variables = int(model.read_text().split()[2])
@@ -242,7 +258,10 @@ class OwnSolvers(HelperTest):
         cells = " ".join(
             word for word in text.split() if re.fullmatch("x[0-9]+", word) and int(word[1:]) <= 295
         )
-        return f"s OPTIMUM FOUND\nv {cells} {' '.join(f'x{number}' for number in range(296, variables + 1))}\n"
+        return (
+            "s OPTIMUM FOUND\nv"
+            f" {cells} {' '.join(f'x{number}' for number in range(296, variables + 1))}\n"
+        )
 
     @unittest.skipUnless(HAS_CBC and find_prover(), "needs cbc and inrc2pb-bound")
     def test_a_confirmed_claim_is_a_proof(self):
@@ -268,7 +287,10 @@ class OwnSolvers(HelperTest):
         self.assertEqual(status, 0, said)
         self.assertRegex(
             report.splitlines()[-1],
-            rf"^the solver mine is wrong: it claims that no roster costs less than [0-9]+, and {self.target} costs 110$",
+            (
+                r"^the solver mine is wrong: it claims that no roster costs less than [0-9]+, and"
+                rf" {self.target} costs 110$"
+            ),
         )
         self.assertTrue(report.startswith("status SATISFIABLE\n"), report)
 
@@ -280,7 +302,10 @@ class OwnSolvers(HelperTest):
         ):
             status, report, said = self.solve(answer)
             self.assertEqual(status, 0, said)
-            line = f"the solver mine is wrong: it claims that no roster {claim}, and {self.target} costs 20"
+            line = (
+                f"the solver mine is wrong: it claims that no roster {claim}, and"
+                f" {self.target} costs 20"
+            )
             self.assertEqual(report.splitlines()[-1], line)
 
     @unittest.skipUnless(HAS_CBC, "needs cbc")
@@ -292,7 +317,10 @@ class OwnSolvers(HelperTest):
             self.target.unlink(missing_ok=True)
             status, report, said = self.solve(answer)
             self.assertEqual((status, program.penalty_of(WEEK_FILES, self.target)), (0, 20), said)
-            line = f"the solver mine is wrong: it claims that no roster {claim}, and {self.target} costs 20"
+            line = (
+                f"the solver mine is wrong: it claims that no roster {claim}, and"
+                f" {self.target} costs 20"
+            )
             self.assertEqual(report.splitlines()[-1], line)
 
     def test_a_number_that_the_answer_does_not_cost(self):
@@ -318,7 +346,8 @@ class OwnSolvers(HelperTest):
 @unittest.skipUnless(find_prover(), "needs inrc2pb-bound")
 class RealSolvers(HelperTest):
     def test_the_claims_of_installed_solvers(self):
-        model, linear = self.folder / "week.opb", self.folder / "week.lp"
+        model = self.folder / "week.opb"
+        linear = self.folder / "week.lp"
         program.encode(WEEK_FILES, model)
         self.assertEqual(run("solve", "--model", model, "--out", linear)[0], 0)
         commands = {

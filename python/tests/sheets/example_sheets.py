@@ -1,14 +1,14 @@
-"""The spreadsheet of the tests, a change of the example of `inrc2pb-plan FOLDER new`, and the files that `files` makes of it."""
+"""The spreadsheet of the tests, a change of the example of `inrc2pb-plan FOLDER new`, and the files
+that `files` makes of it."""
 
 import copy
 from pathlib import Path
 
 from ward import ROOT
 
-from inrc2pb.commands import ward
-from inrc2pb.sheets.plan_days import read_days
 from inrc2pb.week.records import DAYS
 from inrc2pb.sheets.sheet_files import Book
+from inrc2pb.sheets.ward import ward_of
 from inrc2pb.sheets.ward_template import EXAMPLE
 
 DATA = ROOT / "python" / "tests" / "data"
@@ -50,14 +50,13 @@ _ROWS = {
 SHEETS = {name: [[str(cell) for cell in row] for row in rows] for name, rows in _ROWS.items()}
 
 
-def made(sheets, reasons=(), name="ward", requests=False):
-    """The files of these sheets, with warnings."""
-    book = Book(Path("ward.ods"), sheets)
-    return ward.ward_files(book, name, read_days(book), reasons, requests)
+def made(sheets, reasons=(), name="ward"):
+    """The ward of these sheets."""
+    return ward_of(Book(Path("ward.ods"), sheets), name, reasons=reasons)
 
 
 def texts(sheets, reasons=(), name="ward"):
-    """The files of these sheets, without warnings."""
+    """The files of these sheets."""
     return made(sheets, reasons, name).texts
 
 

@@ -1,11 +1,13 @@
-"""Tests of the days and weeks that the sheets name: heads of the sheet plan, and weeks of rows of the sheet needs."""
+"""Tests of the days and weeks that the sheets name: heads of the sheet plan, and weeks of rows of
+the sheet needs."""
 
 import copy
+import datetime
 import unittest
 from example_sheets import SHEETS, changed, made, texts
 from pathlib import Path
 
-from inrc2pb.commands.ward import days_of
+from inrc2pb.sheets.ward import days_of
 from inrc2pb.sheets.sheet_files import Book
 from inrc2pb.week.faults import FileFault, FileFaults
 
@@ -23,6 +25,8 @@ class Heads(unittest.TestCase):
             (1, "Sun 1", f", row 1, column B: 'Sun 1' should be a Mon: {once}"),
             (3, "Tue 1", f", row 1, column D: 'Tue 1' should be a Wed: {once}"),
             (1, "2026-12-01", f", row 1, column B: '2026-12-01' should be a Mon: {once}"),
+            # 1954 is the first year of dates.
+            (1, "1954-01-05", f", row 1, column B: '1954-01-05' should be a Mon: {once}"),
             (1, "46357", f", row 1, column B: '2026-12-01' should be a Mon: {once}"),
             (
                 1,
@@ -32,13 +36,19 @@ class Heads(unittest.TestCase):
             (
                 1,
                 "30.11.",
-                f", row 1, column B: '30.11.' is no day of the week: {days}, or {whole}, or begin the head with #",
+                (
+                    f", row 1, column B: '30.11.' is no day of the week: {days}, or {whole}, or"
+                    " begin the head with #"
+                ),
             ),
             *(
                 (
                     1,
                     text,
-                    f", row 1, column B: '{text}' may have the day or the month first: write {dates}",
+                    (
+                        f", row 1, column B: '{text}' may have the day or the month first: write"
+                        f" {dates}"
+                    ),
                 )
                 for text, dates in (
                     ("30/11/2026", "2026-11-30"),
@@ -49,30 +59,62 @@ class Heads(unittest.TestCase):
             (
                 1,
                 "1900-01-29",
-                ", row 1, column B: a spreadsheet makes 1900-01-29 of the number of a day: write whole dates, such as 2026-11-30",
+                (
+                    ", row 1, column B: a spreadsheet makes 1900-01-29 of the number of a day:"
+                    " write whole dates, such as 2026-11-30"
+                ),
             ),
             (
                 15,
                 "Total",
-                f", row 1, column P: 'Total' is no day of the week: {days}, or begin the head with #",
+                (
+                    f", row 1, column P: 'Total' is no day of the week: {days}, or begin the head"
+                    " with #"
+                ),
             ),
             (
                 2,
                 "2026-12-01",
-                ", row 1, column C: '2026-12-01' has a date, unlike the first day: write dates for all days or for none",
+                (
+                    ", row 1, column C: '2026-12-01' has a date, unlike the first day: write dates"
+                    " for all days or for none"
+                ),
             ),
         ):
             with self.subTest(text, column=column), self.assertRaises(FileFault) as caught:
                 texts(changed("plan", 1, column, text))
             self.assertEqual(caught.exception.message, f"sheet plan{said}")
 
+    def test_more_weeks_than_a_plan_has(self):
+        # Column B has the first day, so the first one of week 53 is in column NB: 14 * 26 + 2.
+        sheets = copy.deepcopy(SHEETS)
+        monday = datetime.date(2026, 11, 30)
+        for weeks, said in (
+            (52, None),
+            (
+                53,
+                (
+                    "sheet plan, row 1, column NB: week 53 begins here, and a plan has at most 52"
+                    " weeks: delete the days from here on"
+                ),
+            ),
+        ):
+            days = (monday + datetime.timedelta(days=day) for day in range(7 * weeks))
+            sheets["plan"][0] = ["nurse", *map(str, days)]
+            book = Book(Path("ward.ods"), sheets)
+            with self.subTest(weeks):
+                if said is None:
+                    self.assertEqual(days_of(book).weeks, weeks)
+                    continue
+                with self.assertRaises(FileFault) as caught:
+                    days_of(book)
+                self.assertEqual(caught.exception.message, said)
+
     def test_mistakes_of_heads_are_reported_with_the_rows_of_other_sheets(self):
         sheets = copy.deepcopy(SHEETS)
-        sheets["plan"][0][3], sheets["contracts"][1][1], sheets["nurses"][0][1] = (
-            "Midweek",
-            "many",
-            "kontrakt",
-        )
+        sheets["plan"][0][3] = "Midweek"
+        sheets["contracts"][1][1] = "many"
+        sheets["nurses"][0][1] = "kontrakt"
         with self.assertRaises(FileFaults) as caught:
             days_of(Book(Path("ward.ods"), sheets))
         self.assertEqual([one.message.split(": ")[0] for one in caught.exception.faults], [
@@ -82,10 +124,8 @@ class Heads(unittest.TestCase):
 
 class Weeks(unittest.TestCase):
     def test_wrong_weeks(self):
-        last, number = (
-            "weeks are counted from 1, so write 2 for the last one",
-            "the sheet plan has none: write the week's number, from 1",
-        )
+        last = "weeks are counted from 1, so write 2 for the last one"
+        number = "the sheet plan has none: write the week's number, from 1"
         for text, said in (
             ("3", f"there is no week 3: {last}"),
             ("0", f"there is no week 0: {last}"),
@@ -97,7 +137,8 @@ class Weeks(unittest.TestCase):
             self.assertEqual(caught.exception.message, f"sheet needs, row 2, column A: {said}")
 
     def dated(self, *weeks):
-        """The example with dates from 30 November on, and these texts in the column week of the row of its second week, and of others."""
+        """The example with dates from 30 November on, and these texts in the column week of the row
+        of its second week, and of others."""
         sheets = copy.deepcopy(SHEETS)
         sheets["plan"][0] = [
             "nurse",
@@ -127,11 +168,17 @@ class Weeks(unittest.TestCase):
         for text, said in (
             (
                 "3",
-                "there is no week 3: weeks are counted from 1, so write 2 for the last one, a calendar week such as CW 50, or a date",
+                (
+                    "there is no week 3: weeks are counted from 1, so write 2 for the last one, a"
+                    " calendar week such as CW 50, or a date"
+                ),
             ),
             (
                 "CW 2",
-                "there is no week CW 2: weeks are counted from 1, so write 2 for the last one, a calendar week such as CW 50, or a date",
+                (
+                    "there is no week CW 2: weeks are counted from 1, so write 2 for the last one,"
+                    " a calendar week such as CW 50, or a date"
+                ),
             ),
             ("soon", "'soon' is no whole number: write a number such as 2"),
         ):
@@ -150,7 +197,10 @@ class Weeks(unittest.TestCase):
         del without["needs"][5:]
         for text in ("2026-11-29", "2026-12-14", "2025-12-25"):
             found = made(self.dated(text))
-            line = f"sheet needs, row 6: {text} is not in this plan, so the row counts for no week: correct the date, or delete the row"
+            line = (
+                f"sheet needs, row 6: {text} is not in this plan, so the row counts for no week:"
+                " correct the date, or delete the row"
+            )
             self.assertEqual(
                 ([one for one in found.warnings if "row 6" in one], found.texts),
                 ([line], texts(without)),
@@ -160,7 +210,10 @@ class Weeks(unittest.TestCase):
         # The plan begins in calendar week 2.
         sheets = self.dated("2")
         sheets["plan"][0] = ["nurse", *(f"2027-01-{day}" for day in range(11, 25))]
-        line = "sheet needs, row 6: 2 is the week of the plan, Mon 18 Jan to Sun 24 Jan: write CW 2 for the calendar week"
+        line = (
+            "sheet needs, row 6: 2 is the week of the plan, Mon 18 Jan to Sun 24 Jan: write CW 2"
+            " for the calendar week"
+        )
         self.assertIn(line, made(sheets).warnings)
         sheets["needs"][5][0] = "CW 2"
         self.assertEqual([one for one in made(sheets).warnings if "row 6" in one], [])

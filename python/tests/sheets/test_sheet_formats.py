@@ -1,4 +1,5 @@
-"""Tests of spreadsheets that LibreOffice wrote, of files like those of Excel, of CSV files, and of files that are no spreadsheets."""
+"""Tests of spreadsheets that LibreOffice wrote, of files like those of Excel, of CSV files, and of
+files that are no spreadsheets."""
 
 import copy
 import csv
@@ -13,12 +14,12 @@ from ward import HelperTest
 from xml.etree import ElementTree
 from xml.sax.saxutils import escape
 
-from inrc2pb.commands import ward
 from inrc2pb.sheets.plan_days import read_days
 from inrc2pb.sheets.sheet_facts import look_warnings
 from inrc2pb.sheets.sheet_files import Book, read_book
 from inrc2pb.sheets.sheet_parts import Grid
-from inrc2pb.sheets.sheet_rows import letters_of
+from inrc2pb.sheets.ward import ward_of
+from inrc2pb.sheets.sheet_cells import letters_of
 from inrc2pb.sheets.ward_template import write_template
 from inrc2pb.week.faults import FileFault
 from inrc2pb.week.records import DAYS
@@ -27,8 +28,12 @@ MONDAY = datetime.date(2026, 11, 30)
 
 
 def excel(path, sheets, dates=False):
-    """Writes an XLSX file as Excel does: shared strings, one of them in two runs; inline strings; cells without a place; a merged head."""
-    shared, parts, links, named = [], {}, [], []
+    """Writes an XLSX file as Excel does: shared strings, one of them in two runs; inline strings;
+    cells without a place; a merged head."""
+    shared = []
+    parts = {}
+    links = []
+    named = []
     for number, (name, rows) in enumerate(sheets.items(), 1):
         xml = ""
         for line, row in enumerate(rows, 1):
@@ -40,10 +45,14 @@ def excel(path, sheets, dates=False):
                 if text.isdigit():
                     cells += f"<c {place}><v>{text}</v></c>"
                 elif name == "plan":
-                    cells += f'<c {place} t="inlineStr"><is><t xml:space="preserve"> {escape(text)} </t></is></c>'
+                    cells += (
+                        f'<c {place} t="inlineStr"><is><t xml:space="preserve">'
+                        f" {escape(text)} </t></is></c>"
+                    )
                 else:
                     shared.append(
-                        f"<si><r><t>{escape(text[:1])}</t></r><r><t>{escape(text[1:])}</t></r><rPh sb='0' eb='1'><t>spoken</t></rPh></si>"
+                        f"<si><r><t>{escape(text[:1])}</t></r><r><t>{escape(text[1:])}</t></r><rPh"
+                        " sb='0' eb='1'><t>spoken</t></rPh></si>"
                     )
                     cells += f'<c {place} t="s"><v>{len(shared) - 1}</v></c>'
             xml += f'<row r="{line}">{cells}</row>'
@@ -61,9 +70,10 @@ def excel(path, sheets, dates=False):
     parts[
         "xl/workbook.xml"
     ] = f'<workbook {space} xmlns:r="{relation}"><sheets>{"".join(named)}</sheets></workbook>'
-    parts[
-        "xl/_rels/workbook.xml.rels"
-    ] = f'<Relationships xmlns="http://schemas.openxmlformats.org/package/2006/relationships">{"".join(links)}</Relationships>'
+    parts["xl/_rels/workbook.xml.rels"] = (
+        "<Relationships"
+        f" xmlns=\"http://schemas.openxmlformats.org/package/2006/relationships\">{''.join(links)}</Relationships>"
+    )
     parts["xl/sharedStrings.xml"] = f"<sst {space}>{''.join(shared)}</sst>"
     with zipfile.ZipFile(path, "w", zipfile.ZIP_DEFLATED) as archive:
         for name, text in parts.items():
@@ -72,9 +82,11 @@ def excel(path, sheets, dates=False):
 
 # A sheet with text in elements that are nested too deep.
 DEEP = (
-    '<x xmlns:table="urn:oasis:names:tc:opendocument:xmlns:table:1.0" xmlns:text="urn:oasis:names:tc:opendocument:xmlns:text:1.0" '
+    '<x xmlns:table="urn:oasis:names:tc:opendocument:xmlns:table:1.0"'
+    ' xmlns:text="urn:oasis:names:tc:opendocument:xmlns:text:1.0" '
     'xmlns:office="urn:oasis:names:tc:opendocument:xmlns:office:1.0">'
-    f'<office:spreadsheet><table:table table:name="plan"><table:table-row><table:table-cell><text:p>{"<text:span>" * 3000}{"</text:span>" * 3000}</text:p>'
+    "<office:spreadsheet><table:table"
+    f' table:name="plan"><table:table-row><table:table-cell><text:p>{"<text:span>" * 3000}{"</text:span>" * 3000}</text:p>'
     "</table:table-cell></table:table-row></table:table></office:spreadsheet></x>"
 )
 
@@ -86,7 +98,7 @@ class Formats(HelperTest):
 
     def assert_same(self, path):
         book = read_book(path)
-        self.assertEqual(ward.ward_files(book, "ward", read_days(book), ()).texts, self.wanted)
+        self.assertEqual(ward_of(book, "ward", reasons=()).texts, self.wanted)
 
     def test_a_merged_cell_at_the_right_edge_adds_no_column(self):
         grid = Grid("plan", None)
@@ -103,7 +115,8 @@ class Formats(HelperTest):
 
     def test_a_file_like_one_of_excel(self):
         sheets = copy.deepcopy(SHEETS)
-        # A title, blank rows, a head over two columns with the row below it, and dates as numbers with the days below them.
+        # A title, blank rows, a head over two columns with the row below it, and dates as numbers
+        # with the days below them.
         head = sheets["contracts"][0]
         two = [
             ["contract", "shifts", "", "work", "", "off", "", *head[7:]],
@@ -138,7 +151,7 @@ class Formats(HelperTest):
                 )
                 (folder / f"ward-{name.title()}.csv").write_bytes(text.getvalue().encode(encoding))
             book = read_book(folder)
-            found = ward.ward_files(book, "ward", read_days(book), ()).texts
+            found = ward_of(book, "ward", reasons=()).texts
             self.assertEqual(
                 found, {name: text.replace("Chen", "Jürgen") for name, text in self.wanted.items()}
             )
@@ -150,7 +163,10 @@ class Formats(HelperTest):
         self.assertIn("Amära_Koch Full 2 Charge Nurse\n", texts(sheets)["ward.txt"])
 
     def test_files_that_are_no_spreadsheets(self):
-        many = "the spreadsheet has more than 2000000 elements of XML: delete what is no part of the ward"
+        many = (
+            "the spreadsheet has more than 2000000 elements of XML: delete what is no part of the"
+            " ward"
+        )
         good = (DATA / "libreoffice.ods").read_bytes()
         with zipfile.ZipFile(DATA / "libreoffice.ods") as archive:
             begin = archive.getinfo("content.xml").header_offset + 60
@@ -160,7 +176,10 @@ class Formats(HelperTest):
             (
                 "old.xls",
                 b"\xd0\xcf\x11\xe0" + bytes(600),
-                "this is an old Excel file, or one with a password: save it without one as .xlsx or .ods",
+                (
+                    "this is an old Excel file, or one with a password: save it without one as"
+                    " .xlsx or .ods"
+                ),
             ),
             (
                 "text.ods",
@@ -170,12 +189,18 @@ class Formats(HelperTest):
             (
                 "cut.ods",
                 good[:3000],
-                "the spreadsheet is damaged or has a password: open it in its program, and save it again without one",
+                (
+                    "the spreadsheet is damaged or has a password: open it in its program, and save"
+                    " it again without one"
+                ),
             ),
             (
                 "flipped.ods",
                 flipped,
-                "the spreadsheet is damaged or has a password: open it in its program, and save it again without one",
+                (
+                    "the spreadsheet is damaged or has a password: open it in its program, and save"
+                    " it again without one"
+                ),
             ),
             (
                 "other.zip",
@@ -185,37 +210,53 @@ class Formats(HelperTest):
             (
                 "bomb.ods",
                 {"content.xml": bomb},
-                "the spreadsheet has a document type, which no program writes: save it again with LibreOffice or Excel",
+                (
+                    "the spreadsheet has a document type, which no program writes: save it again"
+                    " with LibreOffice or Excel"
+                ),
             ),
             (
                 "bomb16.ods",
                 {"content.xml": bomb.encode("utf-16")},
-                "the spreadsheet has a document type, which no program writes: save it again with LibreOffice or Excel",
+                (
+                    "the spreadsheet has a document type, which no program writes: save it again"
+                    " with LibreOffice or Excel"
+                ),
             ),
             (
                 "wrong.ods",
                 {"content.xml": "<x>"},
-                "the spreadsheet is damaged or has a password: open it in its program, and save it again without one",
+                (
+                    "the spreadsheet is damaged or has a password: open it in its program, and save"
+                    " it again without one"
+                ),
             ),
             (
                 "deep.ods",
                 {"content.xml": DEEP},
-                "the spreadsheet is damaged or has a password: open it in its program, and save it again without one",
+                (
+                    "the spreadsheet is damaged or has a password: open it in its program, and save"
+                    " it again without one"
+                ),
             ),
             (
                 "large.ods",
                 {"content.xml": "<x>" + " " * 33_554_432 + "</x>"},
-                "the spreadsheet has more than 33554432 bytes of XML: delete what is no part of the ward",
+                (
+                    "the spreadsheet has more than 33554432 bytes of XML: delete what is no part of"
+                    " the ward"
+                ),
             ),
-            # A small file that needs all memory: many empty elements, with attributes or without, and many attributes of one.
+            # A small file that needs all memory: many empty elements, with attributes or without,
+            # and many attributes of one.
             ("elements.ods", {"content.xml": f"<x>{'<a/>' * 2_000_001}</x>"}, many),
             ("named.ods", {"content.xml": "<x>" + '<a b="" c="" d=""/>' * 500_001 + "</x>"}, many),
             (
                 "attributes.ods",
                 {
-                    "content.xml": "<x "
-                    + " ".join(f'a{number}=""' for number in range(150_000))
-                    + "/>"
+                    "content.xml": (
+                        "<x " + " ".join(f'a{number}=""' for number in range(150_000)) + "/>"
+                    )
                 },
                 many,
             ),
@@ -232,7 +273,8 @@ class Formats(HelperTest):
             self.assertEqual(str(caught.exception), f"{path}: {said}")
 
     def in_parts(self, path, **changes):
-        """The spreadsheet with changed parts, each given as an old text and a new one, or as a new part."""
+        """The spreadsheet with changed parts, each given as an old text and a new one, or as a new
+        part."""
         with zipfile.ZipFile(path) as archive:
             parts = {
                 name: archive.read(name).decode()
@@ -255,11 +297,14 @@ class Formats(HelperTest):
     def test_words_that_only_a_look_says(self):
         path = self.folder / "book.xlsx"
         excel(path, SHEETS)
-        # Formats 1 to 3: text struck through, a color, and a pattern that is none. All nurses have a color on the first day, for the eye.
+        # Formats 1 to 3: text struck through, a color, and a pattern that is none. All nurses have
+        # a color on the first day, for the eye.
         styles = (
-            '<styleSheet xmlns="http://schemas.openxmlformats.org/spreadsheetml/2006/main"><fonts><font/><font><strike/></font></fonts>'
-            '<fills><fill><patternFill patternType="gray125"/></fill><fill><patternFill patternType="solid"/></fill></fills>'
-            '<cellXfs><xf fontId="0" fillId="0"/><xf fontId="1" fillId="0"/><xf fontId="0" fillId="1"/></cellXfs></styleSheet>'
+            "<styleSheet"
+            ' xmlns="http://schemas.openxmlformats.org/spreadsheetml/2006/main"><fonts><font/><font><strike/></font></fonts><fills><fill><patternFill'
+            ' patternType="gray125"/></fill><fill><patternFill'
+            ' patternType="solid"/></fill></fills><cellXfs><xf fontId="0" fillId="0"/><xf'
+            ' fontId="1" fillId="0"/><xf fontId="0" fillId="1"/></cellXfs></styleSheet>'
         )
         plan = [
             ('<c r="G4" t=', '<c r="G4" s="1" t='),
@@ -280,8 +325,10 @@ class Formats(HelperTest):
         path = self.folder / "ward.ods"
         write_template(path, MONDAY)
         style = (
-            '<office:automatic-styles><style:style style:name="old"><style:text-properties style:text-line-through-style="solid"/></style:style>'
-            '<style:style style:name="red"><style:table-cell-properties fo:background-color="#ff0000"/></style:style>'
+            '<office:automatic-styles><style:style style:name="old"><style:text-properties'
+            ' style:text-line-through-style="solid"/></style:style><style:style'
+            ' style:name="red"><style:table-cell-properties'
+            ' fo:background-color="#ff0000"/></style:style>'
         )
         space = ' xmlns:fo="urn:oasis:names:tc:opendocument:xmlns:xsl-fo-compatible:1.0"'
         content = [
@@ -358,7 +405,10 @@ class Formats(HelperTest):
         for text, said in (
             (
                 "=A1+1",
-                "the value of the formula =A1+1 is not in the file: open the file in a spreadsheet program, and save it again, or write the value",
+                (
+                    "the value of the formula =A1+1 is not in the file: open the file in a"
+                    " spreadsheet program, and save it again, or write the value"
+                ),
             ),
             ("#REF!", "a formula has the fault #REF!: correct it, or write its value in its place"),
             (
@@ -374,7 +424,7 @@ class Formats(HelperTest):
 
     def test_hidden_rows_and_empty_days(self):
         book = Book(Path("ward.ods"), changed("needs", 2, 5, ""), {"nurses": [4, 90], "plan": [2]})
-        warnings = ward.ward_files(book, "ward", read_days(book), ()).warnings
+        warnings = ward_of(book, "ward", reasons=()).warnings
         self.assertIn("sheet nurses: row 4 hidden, and counted: show it, or delete it", warnings)
         self.assertIn(
             "sheet needs, row 2: Wed empty, and counted as 0: write 0 if nobody is needed", warnings

@@ -1,4 +1,5 @@
-"""Tests of the verbs `new` and `files` of `inrc2pb-plan`: the files that they make of sheets, and wrong cells."""
+"""Tests of the verbs `new` and `files` of `inrc2pb-plan`: the files that they make of sheets, and
+wrong cells."""
 
 import copy
 import csv
@@ -12,15 +13,14 @@ from pathlib import Path
 from ward import HelperTest, files, run
 
 from inrc2pb.commands import ward
-from inrc2pb.commands.ward import days_of
+from inrc2pb.sheets.ward import days_of, ward_of
 from inrc2pb.judging.absences import absences_of
 from inrc2pb.judging.limits import with_given
 from inrc2pb.judging.rules import charges
-from inrc2pb.sheets.plan_days import read_days
 from inrc2pb.sheets.plan_sheets import AWAY
 from inrc2pb.sheets.sheet_files import Book, read_book
 from inrc2pb.week.facts import Charged, Claim, read_facts
-from inrc2pb.week.faults import FileFault, FileFaults
+from inrc2pb.week.faults import FileFault, FileFaults, fault_line
 from inrc2pb.week.records import Absence, Place, Requirement, Week
 
 NAMES = [
@@ -97,7 +97,8 @@ class Contents(unittest.TestCase):
     def test_a_contract_counts_in_proportion_to_the_days_of_a_nurse(self):
         sheets = copy.deepcopy(SHEETS)
         sheets["contracts"][1][2] = "11!"
-        # Bruno leaves after a week and a day; Finn, whose contract has no limit, is on unpaid leave on a day.
+        # Bruno leaves after a week and a day; Finn, whose contract has no limit, is on unpaid leave
+        # on a day.
         sheets["plan"][2][9:] = ["away"] * 6
         sheets["contracts"][2][2] = ""
         sheets["plan"][6][1] = "unpaid"
@@ -168,7 +169,10 @@ class Contents(unittest.TestCase):
                 1,
                 1,
                 "min in row",
-                "row 1, column B: 'min in row' is no column of this sheet: did you mean 'min in a row'?",
+                (
+                    "row 1, column B: 'min in row' is no column of this sheet: did you mean 'min in"
+                    " a row'?"
+                ),
             ),
             ("shifts", 1, 0, "type", "no row has the head 'shift': write shift into the first row"),
             *(
@@ -177,7 +181,10 @@ class Contents(unittest.TestCase):
                     2,
                     0,
                     text,
-                    f"row 2, column A: '{text}' has a meaning of its own in the ward's files: use another name",
+                    (
+                        f"row 2, column A: '{text}' has a meaning of its own in the ward's files:"
+                        " use another name"
+                    ),
                 )
                 for text in ("Any", "Off", "wish", *AWAY)
             ),
@@ -193,14 +200,20 @@ class Contents(unittest.TestCase):
                 2,
                 0,
                 "",
-                "row 2, column A: the cell is empty: write the name of the shift type, or delete the row",
+                (
+                    "row 2, column A: the cell is empty: write the name of the shift type, or"
+                    " delete the row"
+                ),
             ),
             (
                 "shifts",
                 2,
                 0,
                 "D (long)",
-                "row 2, column A: 'D (long)' has one of the signs ( ) , =: write the name without it",
+                (
+                    "row 2, column A: 'D (long)' has one of the signs ( ) , =: write the name"
+                    " without it"
+                ),
             ),
             ("shifts", 3, 3, "Dya", "row 3, column D: 'Dya' is no shift type: did you mean Day?"),
             (
@@ -222,7 +235,10 @@ class Contents(unittest.TestCase):
                 2,
                 1,
                 "50.00%",
-                "row 2, column B: '50.00%' is no whole number: write the number itself, not a part of another one",
+                (
+                    "row 2, column B: '50.00%' is no whole number: write the number itself, not a"
+                    " part of another one"
+                ),
             ),
             ("contracts", 2, 1, "O", "row 2, column B: 'O' is no whole number: write the digit 0"),
             (
@@ -238,7 +254,10 @@ class Contents(unittest.TestCase):
                 2,
                 2,
                 "",
-                "row 2, column C: the cell is empty: write the nurse's skills, such as Charge, Nurse",
+                (
+                    "row 2, column C: the cell is empty: write the nurse's skills, such as Charge,"
+                    " Nurse"
+                ),
             ),
             (
                 "nurses",
@@ -252,35 +271,50 @@ class Contents(unittest.TestCase):
                 1,
                 4,
                 "off days",
-                "row 1, column E: 'off days' is no column of this sheet: did you mean 'always off'?",
+                (
+                    "row 1, column E: 'off days' is no column of this sheet: did you mean 'always"
+                    " off'?"
+                ),
             ),
             (
                 "nurses",
                 1,
                 3,
                 "nights",
-                "row 1, column D: 'nights' is no column of this sheet: delete it, or begin its head with #",
+                (
+                    "row 1, column D: 'nights' is no column of this sheet: delete it, or begin its"
+                    " head with #"
+                ),
             ),
             (
                 "nurses",
                 2,
                 2,
                 "Charge Nurse",
-                "row 2, column C: 'Charge Nurse' is no skill of the sheet needs, and has several in it: write commas between skills",
+                (
+                    "row 2, column C: 'Charge Nurse' is no skill of the sheet needs, and has"
+                    " several in it: write commas between skills"
+                ),
             ),
             (
                 "nurses",
                 2,
                 2,
                 "charge+Nurse",
-                "row 2, column C: 'charge+Nurse' is no skill of the sheet needs, and has several in it: write commas between skills",
+                (
+                    "row 2, column C: 'charge+Nurse' is no skill of the sheet needs, and has"
+                    " several in it: write commas between skills"
+                ),
             ),
             (
                 "nurses",
                 2,
                 2,
                 "Nurse, Chrage",
-                "row 2, column C: no row of the sheet needs has the skill 'Chrage': write Charge if you mean it, else add a row for it",
+                (
+                    "row 2, column C: no row of the sheet needs has the skill 'Chrage': write"
+                    " Charge if you mean it, else add a row for it"
+                ),
             ),
             *(
                 (
@@ -288,7 +322,10 @@ class Contents(unittest.TestCase):
                     2,
                     4,
                     text,
-                    f"row 2, column E: '{text}' is no day of the week: write days with commas between, such as Mon, Tue",
+                    (
+                        f"row 2, column E: '{text}' is no day of the week: write days with commas"
+                        " between, such as Mon, Tue"
+                    ),
                 )
                 for text in ("W", "Monday and Tue", "Mon Tue", "Mon-Wed", "Mon+Tue", "Sunrise")
             ),
@@ -304,7 +341,10 @@ class Contents(unittest.TestCase):
                 2,
                 3,
                 "46083",
-                "row 2, column D: 46083 is more than 9999: a spreadsheet makes such a number of 2-3 or 2/3, so write 2+1 for 2 at least and better 3",
+                (
+                    "row 2, column D: 46083 is more than 9999: a spreadsheet makes such a number of"
+                    " 2-3 or 2/3, so write 2+1 for 2 at least and better 3"
+                ),
             ),
             *(
                 (
@@ -312,7 +352,10 @@ class Contents(unittest.TestCase):
                     2,
                     3,
                     text,
-                    f"row 2, column D: '{text}' is no whole number: write a number such as 2, or {pair}",
+                    (
+                        f"row 2, column D: '{text}' is no whole number: write a number such as 2,"
+                        f" or {pair}"
+                    ),
                 )
                 for text, pair in (
                     ("2-3", "2+1 for 2 at least and better 3"),
@@ -330,7 +373,10 @@ class Contents(unittest.TestCase):
                     2,
                     3,
                     text,
-                    f"row 2, column D: '{text}' is no whole number, or it is two numbers: write 2 or 3, or {pair}",
+                    (
+                        f"row 2, column D: '{text}' is no whole number, or it is two numbers: write"
+                        f" 2 or 3, or {pair}"
+                    ),
                 )
                 for text, pair in (
                     ("2,5", "2+3 for 2 at least and better 5"),
@@ -344,7 +390,10 @@ class Contents(unittest.TestCase):
                     2,
                     3,
                     text,
-                    f"row 2, column D: '{text}' is no whole number: write 4, or 4+1 for 4 at least and better 5",
+                    (
+                        f"row 2, column D: '{text}' is no whole number: write 4, or 4+1 for 4 at"
+                        " least and better 5"
+                    ),
                 )
                 for text in ("ca. 4", "~4", "at least 4", "4 nurses", "4?")
             ),
@@ -360,14 +409,20 @@ class Contents(unittest.TestCase):
                 2,
                 3,
                 "46145",
-                "row 2, column D: 46145 is more than 9999: a spreadsheet makes such a number of 2-3 or 2/3, so write one number",
+                (
+                    "row 2, column D: 46145 is more than 9999: a spreadsheet makes such a number of"
+                    " 2-3 or 2/3, so write one number"
+                ),
             ),
             (
                 "needs",
                 2,
                 3,
                 "3..2",
-                "row 2, column D: at least 3 are needed, and 2 are best: write the smaller number first",
+                (
+                    "row 2, column D: at least 3 are needed, and 2 are best: write the smaller"
+                    " number first"
+                ),
             ),
             (
                 "needs",
@@ -388,22 +443,30 @@ class Contents(unittest.TestCase):
                 2,
                 0,
                 "Amara",
-                "row 2, column A: 'Amara' is no nurse of the sheet nurses: did you mean Amara Koch?",
+                (
+                    "row 2, column A: 'Amara' is no nurse of the sheet nurses: did you mean Amara"
+                    " Koch?"
+                ),
             ),
             (
                 "plan",
                 3,
                 0,
                 "Legend: x",
-                "row 3, column A: 'Legend: x' is no nurse of the sheet nurses: "
-                "write one of Amara Koch, Bruno, Chen, Dilek, Ewa, Finn, Grace, Hana, or delete the row",
+                (
+                    "row 3, column A: 'Legend: x' is no nurse of the sheet nurses: write one of"
+                    " Amara Koch, Bruno, Chen, Dilek, Ewa, Finn, Grace, Hana, or delete the row"
+                ),
             ),
             (
                 "needs",
                 3,
                 1,
                 "Total",
-                "row 3, column B: 'Total' is no shift type: write one of Day, Late, Night, or delete the row",
+                (
+                    "row 3, column B: 'Total' is no shift type: write one of Day, Late, Night, or"
+                    " delete the row"
+                ),
             ),
             (
                 "plan",
@@ -425,14 +488,20 @@ class Contents(unittest.TestCase):
                 2,
                 1,
                 "Xyz",
-                "row 2, column B: 'Xyz' is no shift type: write one of Day, Late, Night, wish, off, away, ill, leave, unpaid, training, no Day",
+                (
+                    "row 2, column B: 'Xyz' is no shift type: write one of Day, Late, Night, wish,"
+                    " off, away, ill, leave, unpaid, training, no Day"
+                ),
             ),
             (
                 "plan",
                 2,
                 1,
                 "Day",
-                "row 2, column B: Amara Koch has more than one skill for it: write Day/Charge, for example",
+                (
+                    "row 2, column B: Amara Koch has more than one skill for it: write Day/Charge,"
+                    " for example"
+                ),
             ),
             (
                 "plan",
@@ -446,14 +515,20 @@ class Contents(unittest.TestCase):
                 4,
                 1,
                 "Day",
-                "row 4, column B: Chen may not work Day on the day after Late: change one of the two",
+                (
+                    "row 4, column B: Chen may not work Day on the day after Late: change one of"
+                    " the two"
+                ),
             ),
             (
                 "plan",
                 6,
                 3,
                 "Night/Nurse",
-                "row 6, column D: Ewa never works this shift or is always off on this day, by the sheet nurses: change one of the two",
+                (
+                    "row 6, column D: Ewa never works this shift or is always off on this day, by"
+                    " the sheet nurses: change one of the two"
+                ),
             ),
             (
                 "contracts",
@@ -468,7 +543,10 @@ class Contents(unittest.TestCase):
                     2,
                     2,
                     text,
-                    f"row 2, column C: '{text}' is no whole number: write a number such as 2, or leave the cell empty",
+                    (
+                        f"row 2, column C: '{text}' is no whole number: write a number such as 2,"
+                        " or leave the cell empty"
+                    ),
                 )
                 for text in ("-", "n/a")
             ),
@@ -477,7 +555,10 @@ class Contents(unittest.TestCase):
                 2,
                 2,
                 "0",
-                "row 2, column B: the minimum 8 is above the maximum 0: correct one of the two; for no limit leave the cell empty",
+                (
+                    "row 2, column B: the minimum 8 is above the maximum 0: correct one of the two;"
+                    " for no limit leave the cell empty"
+                ),
             ),
             (
                 "nurses",
@@ -487,9 +568,10 @@ class Contents(unittest.TestCase):
                 "row 2, column B: the cell is empty: write a contract, or delete the row",
             ),
         ):
-            with self.subTest(sheet=sheet, row=row, text=text), self.assertRaises(
-                FileFault
-            ) as caught:
+            with (
+                self.subTest(sheet=sheet, row=row, text=text),
+                self.assertRaises(FileFault) as caught,
+            ):
                 texts(changed(sheet, row, column, text))
             where = f"sheet {sheet}" + (", " if said.startswith("row") else ": ")
             self.assertEqual(str(caught.exception), f"ward.ods: {where}{said}")
@@ -503,6 +585,8 @@ class Contents(unittest.TestCase):
             caught.exception.message,
             f"there is no sheet 'needs' beside shifts, contracts, nurses, plan: {cure}",
         )
+        # It is a fault of no line.
+        self.assertNotIn(" line ", fault_line(caught.exception))
         for sheet, column, name in (("nurses", 2, "skills"), ("needs", 9, "sun")):
             with self.assertRaises(FileFault) as caught:
                 texts(changed(sheet, 1, column, ""))
@@ -520,7 +604,10 @@ class Contents(unittest.TestCase):
                 )
             self.assertEqual(
                 caught.exception.message,
-                f"sheet {sheet}: it has {most + 1} {kind}, and a ward has 1 to {most}: correct the rows",
+                (
+                    f"sheet {sheet}: it has {most + 1} {kind}, and a ward has 1 to {most}: correct"
+                    " the rows"
+                ),
             )
 
     def test_cells_without_a_head(self):
@@ -606,7 +693,7 @@ class Contents(unittest.TestCase):
             texts(sheets)
         self.assertIn("row 2, column C: 'Nurse Charge Nurse' is no skill", caught.exception.message)
         book = Book(Path("ward.ods"), changed("nurses", 2, 2, "Charge, Nurse, Wound care"))
-        found = ward.ward_files(book, "ward", read_days(book), ())
+        found = ward_of(book, "ward", reasons=())
         self.assertIn(
             "sheet nurses: no row of the sheet needs has the skill Wound_care", found.warnings
         )
@@ -627,9 +714,11 @@ class Contents(unittest.TestCase):
         )
 
     def test_absences_as_requests(self):
-        found = made(SHEETS, requests=True).texts
+        found = made(SHEETS)
+        found = found.texts_of(found.with_requests())
         scenario = files.read_scenario("ward.txt", found["ward.txt"])
-        # Ewa never works Night, and Finn is off on Wednesdays: 8 absences with 200 requests each, and 5 wishes.
+        # Ewa never works Night, and Finn is off on Wednesdays: 8 absences with 200 requests each,
+        # and 5 wishes.
         data = files.read_week("w", scenario, found["week-0.txt"])
         self.assertEqual((len(data.requests), len(absences_of(data))), (1605, 8))
         self.assertEqual(
@@ -676,7 +765,10 @@ class Contents(unittest.TestCase):
                 2,
                 1,
                 "8!",
-                "row 2, column B: '8!' is no whole number: the sign ! is for shifts max, work max and weekends",
+                (
+                    "row 2, column B: '8!' is no whole number: the sign ! is for shifts max, work"
+                    " max and weekends"
+                ),
             ),
             (
                 1,
@@ -758,7 +850,10 @@ class Contents(unittest.TestCase):
             ("day off", "'day off' is no word of the plan: write wish, or off if it is promised"),
             (
                 "wish Night",
-                "'wish Night': a wish is a day off: write wish, or no Night if she would rather not have Night",
+                (
+                    "'wish Night': a wish is a day off: write wish, or no Night if she would rather"
+                    " not have Night"
+                ),
             ),
         ):
             with self.subTest(text), self.assertRaises(FileFault) as caught:
@@ -774,7 +869,10 @@ class Contents(unittest.TestCase):
         sheets["plan"][7][2:8] = ["Day"] * 6
         # She has Day on the second Monday already.
         span = "Tue of week 1 to Mon of week 2"
-        line = f"sheet plan: Grace has 7 fixed shifts in a row, {span}, and never works more than 5: take some of them out, or the sign ! from work max"
+        line = (
+            f"sheet plan: Grace has 7 fixed shifts in a row, {span}, and never works more than 5:"
+            " take some of them out, or the sign ! from work max"
+        )
         self.assertEqual([one for one in made(sheets).warnings if "fixed" in one], [line])
         sheets["contracts"][1][4] = "5"
         self.assertEqual([one for one in made(sheets).warnings if "fixed" in one], [])
@@ -782,7 +880,10 @@ class Contents(unittest.TestCase):
     def test_a_night_after_which_everything_may_follow(self):
         sheets = copy.deepcopy(SHEETS)
         sheets["shifts"][3][3] = ""
-        line = "sheet shifts: each shift type may follow Night on the next day: write those that may not into 'not followed by'"
+        line = (
+            "sheet shifts: each shift type may follow Night on the next day: write those that may"
+            " not into 'not followed by'"
+        )
         self.assertIn(line, made(sheets).warnings)
         self.assertNotIn(line, made(SHEETS).warnings)
 
@@ -790,8 +891,34 @@ class Contents(unittest.TestCase):
         sheets = copy.deepcopy(SHEETS)
         for sheet in ("nurses", "plan"):
             sheets[sheet][3][0] = "12"
-        line = "sheet nurses, row 4: the name of the nurse is the number 12: write a name, or leave it if it is meant so"
+        line = (
+            "sheet nurses, row 4: the name of the nurse is the number 12: write a name, or leave it"
+            " if it is meant so"
+        )
         self.assertIn(line, made(sheets).warnings)
+
+    def test_older_names(self):
+        # Column L has them; Amara Koch and Bruno are in rows 2 and 3.
+        for cells, said in (
+            (("Amara, Amara Ott", ""), None),
+            (("bruno", ""), "row 2, column L: 'bruno' has a row: delete one of the two, or empty"),
+            (("Amara Koch", ""), "row 2, column L: 'Amara Koch' has a row: delete one of the two"),
+            (
+                ("Ott", "ott"),
+                "row 3, column L: 'ott' is the older name of two nurses: empty one of the cells",
+            ),
+        ):
+            sheets = copy.deepcopy(SHEETS)
+            for row, text in enumerate(cells, 1):
+                sheets["nurses"][row][11:] = [text]
+            with self.subTest(cells):
+                if said is None:
+                    older = {"amara": "Amara_Koch", "amara_ott": "Amara_Koch"}
+                    self.assertEqual(made(sheets).was, older)
+                    continue
+                with self.assertRaises(FileFault) as caught:
+                    made(sheets)
+                self.assertIn(said, caught.exception.message)
 
     def test_signs_without_a_width(self):
         self.assertEqual(texts(changed("plan", 4, 0, "Chen\u200b")), texts(SHEETS))
@@ -817,15 +944,24 @@ class Contents(unittest.TestCase):
         for sheets, line in (
             (
                 changed("nurses", 7, 3, "Day, Late, Night"),
-                "sheet nurses: Finn never works: correct what she never works, or when she is always off",
+                (
+                    "sheet nurses: Finn never works: correct what she never works, or when she is"
+                    " always off"
+                ),
             ),
             (
                 night,
-                "sheet shifts: Night may not follow Day, and each shift type may follow Night: is 'not followed by' the other way round?",
+                (
+                    "sheet shifts: Night may not follow Day, and each shift type may follow Night:"
+                    " is 'not followed by' the other way round?"
+                ),
             ),
             (
                 missing,
-                "sheet plan: Chen has no row: she has no wishes and no absences; if she has some, add a row",
+                (
+                    "sheet plan: Chen has no row: she has no wishes and no absences; if she has"
+                    " some, add a row"
+                ),
             ),
         ):
             self.assertIn(line, made(sheets).warnings)
@@ -833,10 +969,17 @@ class Contents(unittest.TestCase):
 
     def test_best_numbers_above_what_contracts_supply(self):
         sheets = changed("contracts", 2, 2, "8")
-        # Day Charge 14, Day Nurse 12 and 11, Late and Night 14 each; six nurses have 8 shifts, and two have 6.
-        asks = "sheet needs: the best numbers ask for 65 shifts, the minimum numbers for 51, and the contracts supply at most 60 beside absences"
+        # Day Charge 14, Day Nurse 12 and 11, Late and Night 14 each; six nurses have 8 shifts, and
+        # two have 6.
+        asks = (
+            "sheet needs: the best numbers ask for 65 shifts, the minimum numbers for 51, and the"
+            " contracts supply at most 60 beside absences"
+        )
         self.assertIn(
-            f"{asks}: each shift above costs 20 points, and a nurse below a best number 30: lower best numbers",
+            (
+                f"{asks}: each shift above costs 20 points, and a nurse below a best number 30:"
+                " lower best numbers"
+            ),
             made(sheets).warnings,
         )
         sheets["contracts"][0][2] = "shifts max!"
@@ -855,21 +998,31 @@ class Contents(unittest.TestCase):
 
 class Command(HelperTest):
     def test_the_template_is_a_ward(self):
-        folder, out = self.folder / "new", self.folder / "out"
+        folder = self.folder / "new"
+        out = self.folder / "out"
         book = folder / "ward.ods"
         status, printed, said = run("plan", folder, "new")
-        says = f"written: {book}; change its rows into those of your ward, then type: inrc2pb-plan {folder} check\n"
+        says = (
+            f"written: {book}; change its rows into those of your ward, then type: inrc2pb-plan"
+            f" {folder} check\n"
+        )
         self.assertEqual((status, printed, said), (0, says, ""))
         status, printed, said = run("plan", folder, "files", "--out", out)
         self.assertEqual((status, said), (0, ""))
         names = [*NAMES, "week-2.txt", "fix-2.txt", "week-3.txt", "fix-3.txt"]
         self.assertRegex(
             printed.splitlines()[0],
-            "the best numbers ask for 132 shifts, .* and the contracts supply at most 130 beside absences",
+            (
+                "the best numbers ask for 132 shifts, .* and the contracts supply at most 130"
+                " beside absences"
+            ),
         )
         self.assertEqual(
             printed.split("\n", 1)[1],
-            f"{out}: {', '.join(names)}\nChen: 3 days away count as 3 shifts in history-0.txt\nFinn: 1 day away counts as 1 shift in history-0.txt\n",
+            (
+                f"{out}: {', '.join(names)}\nChen: 3 days away count as 3 shifts in"
+                " history-0.txt\nFinn: 1 day away counts as 1 shift in history-0.txt\n"
+            ),
         )
         words = (
             "--sce",
@@ -883,15 +1036,18 @@ class Command(HelperTest):
         )
         status, printed, _ = run("roster", "check", *words)
         self.assertEqual((status, printed.splitlines()[-1]), (0, "No mistake found."))
-        # Its notes are not read. A maximum with the sign, and the row of a bank holiday, are as they say.
+        # Its notes are not read. A maximum with the sign, and the row of a bank holiday, are as
+        # they say.
         sheets = read_book(book).sheets
         self.assertEqual(
             [row[4] for row in sheets["shifts"]],
             ["times", "07:00-15:30", "14:30-23:00", "22:30-07:15"],
         )
-        contracts, needs = sheets["contracts"], sheets["needs"]
+        contracts = sheets["contracts"]
+        needs = sheets["needs"]
         self.assertEqual((contracts[0][9], needs[0][10]), ("note", "note"))
-        example, words = texts(sheets), re.search(
+        example = texts(sheets)
+        words = re.search(
             "with (.+) for week, (.+) for shift, (.+) for skill, and (.+) for Fri", needs[2][10]
         )
         contracts[1][2] = contracts[1][9].split(" ")[0]
@@ -939,14 +1095,18 @@ class Command(HelperTest):
         self.assertIn("SCENARIO = ward\n", (folder / "ward.txt").read_text())
         self.assertEqual(run("plan", folder, "check")[0], 0)
         # A spreadsheet may be given itself.
-        book, out = DATA / "libreoffice.ods", self.folder / "out"
+        book = DATA / "libreoffice.ods"
+        out = self.folder / "out"
         self.assertEqual(run("plan", book, "files", "--out", out)[0], 0)
         self.assertIn("SCENARIO = libreoffice\n", (out / "ward.txt").read_text())
 
     def test_later_histories_without_the_credit_of_leave(self):
         out = self.folder / "out"
         words = ("plan", DATA / "libreoffice.ods", "files", "--out", out, "--credit", "none")
-        said = f"{out}: warning: history-0.txt has new numbers of Amara Koch, and {{}} the old ones: make {{}} again with inrc2pb-roster next or inrc2pb-solve"
+        said = (
+            f"{out}: warning: history-0.txt has new numbers of Amara Koch, and {{}} the old ones:"
+            " make {} again with inrc2pb-roster next or inrc2pb-solve"
+        )
         self.assertEqual(run(*words)[0], 0)
         (out / "history-1.txt").write_text("")
         self.assertNotIn("again", run(*words)[1])
@@ -960,19 +1120,23 @@ class Command(HelperTest):
         for row in sheets["plan"][1:]:
             row[3] = "ill"
         book = Book(Path("ward.ods"), sheets)
-        warnings = ward.ward_files(book, "ward", read_days(book), ()).warnings
+        warnings = ward_of(book, "ward", reasons=()).warnings
         self.assertIn(
             ": no roster that keeps every absence can meet it: lower minimum numbers by ",
             [line for line in warnings if line.startswith("sheet needs, week 1: Wed: ")][0],
         )
 
     def test_faults(self):
-        book, out = DATA / "libreoffice.ods", self.folder / "out"
+        book = DATA / "libreoffice.ods"
+        out = self.folder / "out"
         away = "away,ill,leave,unpaid,training, or none"
         for words, said in (
             (
                 (self.folder, "files"),
-                f"{self.folder} has no spreadsheet: put the ward's .ods or .xlsx file into it, or give a new folder and `new`",
+                (
+                    f"{self.folder} has no spreadsheet: put the ward's .ods or .xlsx file into it,"
+                    " or give a new folder and `new`"
+                ),
             ),
             (
                 (book, "files", "--out", out, "--credit", "holiday"),
@@ -1019,7 +1183,10 @@ class Command(HelperTest):
     def test_no_file_is_half_written(self):
         out = self.folder / "out"
         (out / "fix-1.txt").mkdir(parents=True)
-        line = f"inrc2pb-plan: {out / 'fix-1.txt'}: Is a directory: this is a folder: name a file in it"
+        line = (
+            f"inrc2pb-plan: {out / 'fix-1.txt'}: Is a directory: this is a folder: name a file"
+            " in it"
+        )
         self.assert_fault(run("plan", DATA / "libreoffice.ods", "files", "--out", out), line, 3)
         self.assertEqual(os.listdir(out), ["fix-1.txt"])
         file = self.folder / "file"

@@ -186,7 +186,8 @@ class Why(HelperTest):
         for number in range(2, 22):
             for case in list(random_weeks.random_cases(5, number))[:3]:
                 draft = drafts.read_week(case["sce"], case["his"], case["week"])
-                week, rows = drafts.week_of(draft), drafts.rows(drafts.read_roster(case["roster"]))
+                week = drafts.week_of(draft)
+                rows = drafts.rows(drafts.read_roster(case["roster"]))
                 held = drafts.rows(drafts.read_roster(case["fix"])) if "fix" in case else []
                 found = breaches(week, rows, held)
                 self.assertEqual(
@@ -226,10 +227,19 @@ class Swaps(HelperTest):
             printed.splitlines()[:2],
             ["Chen Mon: Day Nurse instead of off", "Grace Mon: off instead of Day Nurse"],
         )
+        # Chen is off on the day before the week, and on Tuesday: 15 and 2 * 30 points for one day of
+        # Day and of work, and 30 for each of two days off that stand alone.
+        self.assertEqual(
+            printed.splitlines()[-1], " +135  in all: S2 +75 S3 +60; penalty 155 instead of 20"
+        )
         self.assertIn("  +60  S2  Chen, Mon: only 1 day with work, at least 3\n", printed)
         other = self.changed(ROSTER, "Grace Mon Day Nurse", "Chen Mon Day Nurse")
         self.assertEqual(
             run("roster", "why", *WEEK_OPTIONS, "--old", ROSTER, "--roster", other)[1], printed
+        )
+        back = run("roster", "why", *WEEK_OPTIONS, "--old", other, "--roster", ROSTER)[1]
+        self.assertEqual(
+            back.splitlines()[-1], " -135  in all: S2 -75 S3 -60; penalty 20 instead of 155"
         )
         before, now = (program.penalty_of(WEEK_FILES, roster) for roster in (ROSTER, other))
         self.assertTrue(
@@ -275,7 +285,10 @@ class Swaps(HelperTest):
             ),
             (
                 ("Chen Fri", "X Fri"),
-                "swap \"X Fri\": 'X' is no nurse: give one of Amara, Bruno, Chen, Dilek, Ewa, Finn, Grace",
+                (
+                    "swap \"X Fri\": 'X' is no nurse: give one of Amara, Bruno, Chen, Dilek, Ewa,"
+                    " Finn, Grace"
+                ),
             ),
             (("Chen", "Grace Fri"), 'swap "Chen": give a nurse and a day, as in "Chen Fri"'),
             (("Chen Fri", "Chen Fri"), 'swap "Chen Fri" "Chen Fri": these are one cell: give two'),
@@ -285,7 +298,10 @@ class Swaps(HelperTest):
             ),
             (
                 ("Chen Fri", "Ewa Fri", "--week", WARD / "week-1.txt", "--roster", ROSTER),
-                "swap is for one roster: change a copy of one of these, and give the others to why, with --old",
+                (
+                    "swap is for one roster: change a copy of one of these, and give the others to"
+                    " why, with --old"
+                ),
             ),
         ):
             with self.subTest(words[-3:]):
@@ -304,11 +320,17 @@ class Older(HelperTest):
         for words, line in (
             (
                 ("--old", other, "--roster", ROSTER),
-                f"{other} is a roster of 'icu', and {ROSTER} of 'ward': give two rosters of one ward",
+                (
+                    f"{other} is a roster of 'icu', and {ROSTER} of 'ward': give two rosters of one"
+                    " ward"
+                ),
             ),
             (
                 ("--old", later, "--roster", ROSTER),
-                f"{later} is a roster of week 1, and {ROSTER} of week 0: give two rosters of one week",
+                (
+                    f"{later} is a roster of week 1, and {ROSTER} of week 0: give two rosters of"
+                    " one week"
+                ),
             ),
             (
                 ("--csv", "--old", ROSTER, "--roster", ROSTER),

@@ -1,5 +1,6 @@
-"""Tests of `inrc2pb-roster show` on the roster of examples/n005w4: held cells, requests that were not granted, the costs of the nurses and
-the report of `decode`, the spreadsheet, and colors in a terminal only."""
+"""Tests of `inrc2pb-roster show` on the roster of examples/n005w4: held cells, requests that were
+not granted, the costs of the nurses and the report of `decode`, the spreadsheet, and colors in a
+terminal only."""
 
 import csv
 import io
@@ -10,6 +11,8 @@ import subprocess
 import unittest
 
 from ward import HELPERS, ROOT, HelperTest, program, run
+
+from inrc2pb.week.soft_rules import SOFT_RULES
 
 EXAMPLE = ROOT / "examples" / "n005w4"
 WARD, HISTORY, WEEK, PROMISED = (
@@ -44,9 +47,8 @@ class Tables(HelperTest):
 
     def assert_adds_up(self, table, report):
         """The costs of the nurses in a spreadsheet add up to the report's, rule by rule."""
-        rows, found = list(csv.reader(io.StringIO(table))), dict.fromkeys(
-            ("S2", "S3", "S4", "S5", "S6", "S7"), 0
-        )
+        rows = list(csv.reader(io.StringIO(table)))
+        found = dict.fromkeys(SOFT_RULES[1:], 0)
         self.assertEqual((rows[0][8:10], len(rows)), (["cost", "rules"], 6))
         for row in rows[1:]:
             paid = [part.split() for part in row[9].split(" + ") if part]
@@ -82,9 +84,8 @@ class Tables(HelperTest):
     def test_a_held_cell(self):
         roster, report = self.decoded("clasp-held.txt", "--fix", PROMISED)
         held = (*WEEK_OPTIONS, "--fix", PROMISED)
-        printed, table = self.shows(*held, "--roster", roster), self.shows(
-            *held, "--csv", "--roster", roster
-        )
+        printed = self.shows(*held, "--roster", roster)
+        table = self.shows(*held, "--csv", "--roster", roster)
         self.assertIn("Late Nu*", printed)
         self.assertIn("* = held", printed)
         self.assertIn("Late Nurse *", table)
@@ -94,7 +95,8 @@ class Tables(HelperTest):
 
     def test_files_that_do_not_fit(self):
         roster = self.decoded("clasp-optimum.txt")[0]
-        other, ward = self.folder / "other.txt", self.folder / "ward.txt"
+        other = self.folder / "other.txt"
+        ward = self.folder / "ward.txt"
         other.write_text(roster.read_text().replace("Patrick", "Paul"))
         ward.write_text(WARD.read_text().replace("Patrick", "Paul"))
         for words, told in (
@@ -102,7 +104,10 @@ class Tables(HelperTest):
             (("--sce", ward, "--roster", roster), "'Patrick' is no nurse of NURSES"),
             (
                 ("--roster", "unwritten.txt"),
-                "inrc2pb-roster: unwritten.txt: No such file or directory: look at its name and folder",
+                (
+                    "inrc2pb-roster: unwritten.txt: No such file or directory: look at its name and"
+                    " folder"
+                ),
             ),
             (("--his", HISTORY, "--roster", roster), "--his"),
         ):

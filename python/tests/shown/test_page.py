@@ -1,4 +1,5 @@
-"""Tests of `inrc2pb-roster show --html` and `--ics`: the page as a whole, its charges and its faults, and calendars."""
+"""Tests of `inrc2pb-roster show --html` and `--ics`: the page as a whole, its charges and its
+faults, and calendars."""
 
 import re
 import unittest
@@ -178,11 +179,17 @@ class Page(PageTest):
             ),
             (
                 ("--html", "--monday", "30.11.2026"),
-                "--monday 30.11.2026: this is no date: give year, month and day, such as 2026-11-30",
+                (
+                    "--monday 30.11.2026: this is no date: give year, month and day, such as"
+                    " 2026-11-30"
+                ),
             ),
             (
                 ("--html", "--monday", "2026-13-01"),
-                "--monday 2026-13-01: this is no date: give year, month and day, such as 2026-11-30",
+                (
+                    "--monday 2026-13-01: this is no date: give year, month and day, such as"
+                    " 2026-11-30"
+                ),
             ),
             (
                 ("--html", "--monday", "9999-12-27"),
@@ -201,15 +208,24 @@ class Page(PageTest):
             ),
             (
                 ("--html", "--times", "Day=6-14"),
-                "--times Day=6-14: give a shift type, its start and its end, such as Early=06:00-14:15",
+                (
+                    "--times Day=6-14: give a shift type, its start and its end, such as"
+                    " Early=06:00-14:15"
+                ),
             ),
             (
                 ("--html", "--times", "Day=06:00-24:30"),
-                "--times Day=06:00-24:30: 24:30 is no time of a day: give hours from 0 to 24 and minutes from 00 to 59",
+                (
+                    "--times Day=06:00-24:30: 24:30 is no time of a day: give hours from 0 to 24"
+                    " and minutes from 00 to 59"
+                ),
             ),
             (
                 ("--html", "--times", "Day=06:60-14:00"),
-                "--times Day=06:60-14:00: 06:60 is no time of a day: give hours from 0 to 24 and minutes from 00 to 59",
+                (
+                    "--times Day=06:60-14:00: 06:60 is no time of a day: give hours from 0 to 24"
+                    " and minutes from 00 to 59"
+                ),
             ),
             (
                 ("--html", "--times", "Dy=06:00-14:00"),
@@ -221,7 +237,10 @@ class Page(PageTest):
             ),
             (
                 ("--html", "--times", "Day=06:00-14:00"),
-                "--times has no times of Late, Night: give them too, such as --times Late=06:00-14:15",
+                (
+                    "--times has no times of Late, Night: give them too, such as --times"
+                    " Late=06:00-14:15"
+                ),
             ),
         ):
             with self.subTest(given):
@@ -259,7 +278,7 @@ class Calendars(PageTest):
         """The lines of each calendar, unfolded."""
         folder = self.folder / "calendars"
         self.assertEqual(
-            run("roster", "show", "--csv", *MONDAY, "--ics", folder, *given)[::2], (0, "")
+            run("roster", "show", "--html", *MONDAY, "--ics", folder, *given)[::2], (0, "")
         )
         found = {}
         for path in sorted(folder.iterdir()):
@@ -308,6 +327,24 @@ class Calendars(PageTest):
                 "--roster",
                 ROSTER,
             ),
+        )
+
+    def test_shifts_of_the_older_roster_are_cancelled_on_their_dates(self):
+        later = self.changed(ROSTER, "0 ward", "1 ward", "later.txt")
+        old = self.changed(later, "Grace Mon Day Nurse", "Chen Mon Late Nurse", "old.txt")
+        new = self.changed(later, "Grace Fri Day Nurse", "Chen Tue Late Nurse", "new.txt")
+        found = self.calendars("--old", ROSTER, "--old", old, "--roster", ROSTER, new)
+        cancelled = {
+            name: [day for day, line in zip(lines, lines[1:]) if line == "STATUS:CANCELLED"]
+            for name, lines in found.items()
+        }
+        # The second week begins on 7 December.
+        self.assertEqual(
+            {name: days for name, days in cancelled.items() if days},
+            {
+                "Chen.ics": ["DTSTART;VALUE=DATE:20261207"],
+                "Grace.ics": ["DTSTART;VALUE=DATE:20261211"],
+            },
         )
 
     def test_a_nurse_without_shifts_and_hostile_names(self):

@@ -1,4 +1,5 @@
-"""Tests of the tables of a page below its roster: totals, also as text and as a spreadsheet, wishes, changes and coverage."""
+"""Tests of the tables of a page below its roster: totals, also as text and as a spreadsheet,
+wishes, changes and coverage."""
 
 import csv
 import io
@@ -68,9 +69,8 @@ class Tables(PageTest):
         rows = self.caption(page, "Totals")
         self.assertEqual(
             rows[0],
-            "nurse,shifts,contract,difference,Day,Late,Night,weekends,at most,wishes,granted,missed,cost".split(
-                ","
-            ),
+            "nurse,shifts,contract,difference,Day,Late,Night,weekends,at"
+            " most,wishes,granted,missed,cost".split(","),
         )
         self.assertIn("Chen,5,17 to 21,12 to 16 left,0,2,3,1,2,1,0,1,10".split(","), rows)
         self.assertIn(["Grace", "Tue no Night", ""], self.caption(page, "Wishes"))
@@ -114,6 +114,12 @@ class Tables(PageTest):
             "below the minimum number: Mon Day Charge has 0 nurses and needs at least 1",
             [words(part) for part in wall.iter("p")],
         )
+
+    def test_a_place_at_its_minimum_is_not_below_it(self):
+        roster = self.changed(ROSTER, "Bruno Mon Day Nurse\n", "")
+        roster.write_text(roster.read_text().replace("= 33", "= 32"))
+        rows = self.caption(self.page(*WEEK_OPTIONS, "--roster", roster), "Nurses at each place")
+        self.assertEqual(rows[2][1], "1 \u221211 too few 1\u20132minimum 1, best 2")
 
     def test_changes(self):
         other = self.changed(ROSTER, "Grace Mon Day Nurse", "Chen Mon Late Nurse")

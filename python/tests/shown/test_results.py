@@ -6,19 +6,37 @@ import unittest
 
 from ward import HelperTest, run
 
-PROVED = "status OPTIMUM FOUND\nobjective 320\npenalty 320\nS1 320\nlower bound 320 (inrc2pb-bound)\nno roster costs less, proved\n"
-OPEN = "status SATISFIABLE\nobjective 500\npenalty 400\nlower bound 300 (inrc2pb-bound): the gap is 100, 25.0 %\n"
-PERIOD = """week 1: penalty 100, out/roster-0.txt
-week 2: penalty 150, out/roster-1.txt
+from inrc2pb.week.soft_rules import SOFT_RULES
 
-         penalty    S1    S2    S3    S4    S5    S6    S7
-week 1       100     0     0     0     0     0   100     0
-week 2       150     0     0     0     0     0   150     0
-period       250     0     0     0     0     0   250     0
-lower bound 250 of the sum (inrc2pb-bound): no plan costs less, proved
-"""
+PROVED = (
+    "status OPTIMUM FOUND\nobjective 320\npenalty 320\nS1 320\nlower bound 320 (inrc2pb-bound)\nno"
+    " roster costs less, proved\n"
+)
+OPEN = (
+    "status SATISFIABLE\nobjective 500\npenalty 400\nlower bound 300 (inrc2pb-bound): the gap is"
+    " 100, 25.0 %\n"
+)
+
+
+def costs(name, cost):
+    """A row of the table of a period, in which S6 alone costs anything."""
+    rules = "".join(f"{cost if rule == 'S6' else 0:6}" for rule in SOFT_RULES)
+    return f"{name}{cost:10}{rules}\n"
+
+
+PERIOD = (
+    "week 1: penalty 100, out/roster-0.txt\nweek 2: penalty 150, out/roster-1.txt\n\n"
+    + f"         penalty{''.join(f'{rule:>6}' for rule in SOFT_RULES)}\n"
+    + costs("week 1", 100)
+    + costs("week 2", 150)
+    + costs("period", 250)
+    + "lower bound 250 of the sum (inrc2pb-bound): no plan costs less, proved\n"
+)
 NOT_PROVED = PROVED.replace("inrc2pb-bound", "plain Python, not proved").replace(", proved\n", "\n")
-LOG = "Seq\tHost\tStarttime\tJobRuntime\tSend\tReceive\tExitval\tSignal\tCommand\n2\t:\t1795953093.375\t     7.234\t0\t9\t0\t0\tsolve\n"
+LOG = (
+    "Seq\tHost\tStarttime\tJobRuntime\tSend\tReceive\tExitval\tSignal\tCommand\n2\t:\t1795953093.375\t"
+    "     7.234\t0\t9\t0\t0\tsolve\n"
+)
 
 
 class Results(HelperTest):
@@ -30,7 +48,8 @@ class Results(HelperTest):
         return paths
 
     def test_a_line_for_each_report_and_one_for_all(self):
-        paths, log = self.reports(PROVED, OPEN, PERIOD, NOT_PROVED, ""), self.folder / "jobs.log"
+        paths = self.reports(PROVED, OPEN, PERIOD, NOT_PROVED, "")
+        log = self.folder / "jobs.log"
         log.write_text(LOG)
         status, printed, said = run("roster", "results", *paths, "--joblog", log)
         self.assertEqual((status, said), (0, ""))
@@ -45,14 +64,24 @@ class Results(HelperTest):
             "reports: 5; with a roster: 4, proved the best: 2; penalty 1290 in all",
         )
 
+    def test_the_last_numbers_of_a_report_count(self):
+        report = self.reports(OPEN + "penalty 320\nlower bound 310 (x)\n")[0]
+        row = run("roster", "results", report)[1].splitlines()[1].split()
+        # 10 of 320 points.
+        self.assertEqual(row[1:], ["320", "310", "3.1", "no", "-"])
+
     def test_a_file_that_is_no_log(self):
         report = self.reports(PROVED)[0]
-        line = f"inrc2pb-roster: {report} is no log of parallel: give the file that its option --joblog has written"
+        line = (
+            f"inrc2pb-roster: {report} is no log of parallel: give the file that its option"
+            " --joblog has written"
+        )
         self.assert_fault(run("roster", "results", report, "--joblog", report), line)
 
     @unittest.skipUnless(shutil.which("parallel"), "needs GNU parallel")
     def test_the_log_of_parallel(self):
-        log, reports = self.folder / "jobs.log", self.folder / "reports"
+        log = self.folder / "jobs.log"
+        reports = self.folder / "reports"
         reports.mkdir()
         command = f"printf 'penalty %d0\\nlower bound 10\\n' {{}} > {reports}/{{#}}.txt"
         words = [

@@ -2,6 +2,7 @@
 
 import unittest
 import xml.etree.ElementTree as ElementTree
+from dataclasses import replace
 
 from test_page import MONDAY, PageTest, words
 from ward import HISTORY, ROSTER, SCENARIO, WARD, WEEK, WEEK_OPTIONS
@@ -113,18 +114,32 @@ class Rosters(PageTest):
             [words(one) for one in page.iter("li")],
             ["\u0394 = changed since the older roster", "WE = weekends with work"],
         )
-        # Beside the roster each nurse's shifts of each type, and her weekends, by the rows of the file.
+        # Beside the roster each nurse's shifts of each type, and her weekends, by the rows of the
+        # file.
         rows = {row[0]: row[8:] for row in self.caption(page, "Shifts")}
         self.assertEqual(
             (rows["nurse"], rows["Finn"], rows["Grace"]),
             (["Day", "Late", "Night", "WE"], [*"0501"], [*"5000"]),
         )
 
+    def test_the_rows_of_a_ward_that_just_fits_a_page_are_high(self):
+        content = Content(read_view(RosterFiles([ROSTER])))
+        for nurses, is_roomy in ((25, True), (26, False)):
+            names = [f"N{number}" for number in range(nurses)]
+            shown = replace(content, view=replace(content.view, nurses=names), only_table=True)
+            self.assertEqual('class="roster roomy"' in page_text(shown), is_roomy, nurses)
+
+    def test_who_is_charged_nothing_is_named(self):
+        view = read_view(RosterFiles([ROSTER], SCENARIO, [HISTORY], [WEEK]))
+        charged = {charge.nurse for week in view.weeks for charge in week.charges}
+        free = [nurse for nurse in view.nurses if nurse not in charged]
+        self.assertTrue(free)
+        self.assertIn(f"<p>Nothing is charged to {', '.join(free)}.</p>", page_text(Content(view)))
+
     def test_absences_show_without_the_days_that_are_kept(self):
         old = self.folder / "old.txt"
-        ill, kept = self.away("Amara=Thu", "Chen=Tue", name="ill.txt"), self.away(
-            "Amara=Thu", "Chen=Mon,Tue", name="kept.txt"
-        )
+        ill = self.away("Amara=Thu", "Chen=Tue", name="ill.txt")
+        kept = self.away("Amara=Thu", "Chen=Mon,Tue", name="kept.txt")
         old.write_text(ROSTER.read_text().replace("Bruno Thu", "Amara Thu"))
         for week, monday in ((ill, ""), (kept, "away")):
             page = self.page(

@@ -43,7 +43,10 @@ class Tables(HelperTest):
     def test_a_roster_without_its_option(self):
         for words in ((ROSTER, "--roster", ROSTER), ("--roster", ROSTER, "--csv", ROSTER)):
             status, _, said = run("roster", "show", *words)
-            line = f"unrecognized arguments: {ROSTER}: give rosters after --roster, and each other file after its option"
+            line = (
+                f"unrecognized arguments: {ROSTER}: give rosters after --roster, and each other"
+                " file after its option"
+            )
             self.assertEqual(
                 (status, said.splitlines()[-1]), (2, f"inrc2pb-roster show: error: {line}")
             )
@@ -166,7 +169,10 @@ class Tables(HelperTest):
         _, _, said = run("roster", "show", "--fix", ROSTER, "--fix", ROSTER, "--roster", ROSTER)
         self.assertEqual(
             said,
-            f"inrc2pb-roster: --fix {ROSTER}: week 1 has the file {ROSTER}: put all rows into one file\n",
+            (
+                f"inrc2pb-roster: --fix {ROSTER}: week 1 has the file {ROSTER}: put all rows into"
+                " one file\n"
+            ),
         )
 
     def test_held_shifts_of_one_of_two_weeks(self):
@@ -179,7 +185,10 @@ class Tables(HelperTest):
         _, _, said = run("roster", "show", *two_weeks, "--fix", f"3={fix}")
         self.assertEqual(
             said,
-            f"inrc2pb-roster: --fix 3={fix}: there is no week 3: give 1 for the first week, and 2 for the last\n",
+            (
+                f"inrc2pb-roster: --fix 3={fix}: there is no week 3: give 1 for the first week, and"
+                " 2 for the last\n"
+            ),
         )
         self.assertIn(
             "give the week's number, 1 for the first week, and its file",

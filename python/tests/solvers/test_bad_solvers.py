@@ -1,4 +1,5 @@
-"""Tests of `inrc2pb-solve --solver`: a user's own solver, also one that fails or claims what is wrong."""
+"""Tests of `inrc2pb-solve --solver`: a user's own solver, also one that fails or claims what is
+wrong."""
 
 import os
 import re
@@ -57,12 +58,16 @@ class OwnSolvers(HelperTest):
         status, report, _ = self.improve("--solver", f"sh -c 'cat {proud}'", "--roster", ROSTER)
         self.assertEqual(status, 0)
         self.assertIn("penalty 20\n", report)
-        wrong = f"the solver sh is wrong: it claims that no roster costs less than 110, and {self.folder / 'best.txt'} costs 20"
+        wrong = (
+            "the solver sh is wrong: it claims that no roster costs less than 110, and"
+            f" {self.folder / 'best.txt'} costs 20"
+        )
         self.assertTrue(report.endswith(f"no lower bound\n{wrong}\n"), report)
 
     def test_a_claim_that_no_roster_exists_and_no_proof(self):
         # Without inrc2pb-bound beside it nothing is proved.
-        alone, eight = self.folder / "inrc2pb", ROOT / "examples" / "eight"
+        alone = self.folder / "inrc2pb"
+        eight = ROOT / "examples" / "eight"
         alone.symlink_to(program.find_program())
         words = (
             "--sce",
@@ -174,7 +179,10 @@ class OwnSolvers(HelperTest):
         script.write_text("#!/bin/sh\n")
         _, _, faults = self.improve("--solver", f"'{script}' {{}}")
         self.assertIn(
-            f"the solver {script} is not executable: type chmod +x '{script}', or choose another with --solver\n",
+            (
+                f"the solver {script} is not executable: type chmod +x '{script}', or choose"
+                " another with --solver\n"
+            ),
             faults,
         )
         script.chmod(0o755)
@@ -194,7 +202,10 @@ class OwnSolvers(HelperTest):
         status, _, faults = self.improve("--solver", f"sh -c '{script}'", "--roster", ROSTER)
         self.assertEqual(status, 1)
         self.assertIn(
-            "sh has no answer: it printed no answer and ended with status 7: the license has ended; try",
+            (
+                "sh has no answer: it printed no answer and ended with status 7: the license has"
+                " ended; try"
+            ),
             faults,
         )
 

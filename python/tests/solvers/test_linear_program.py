@@ -1,4 +1,5 @@
-"""Tests of `inrc2pb-solve --model` and `--answer`: models as LP files, and the solution files of MIP solvers as answers."""
+"""Tests of `inrc2pb-solve --model` and `--answer`: models as LP files, and the solution files of
+MIP solvers as answers."""
 
 import io
 import os
@@ -37,8 +38,9 @@ STATUS_OF = {
 BEST = "o 15\nv x1 x3\n"
 
 
-# The bytes of a long model, the kilobytes that its conversion may take at most, and a program that prints what it took. The
-# largest size in /proc is the program's own; `ru_maxrss` may belong to the process that started it.
+# The bytes of a long model, the kilobytes that its conversion may take at most, and a program that
+# prints what it took. The largest size in /proc is the program's own; `ru_maxrss` may belong to the
+# process that started it.
 LONG_MODEL = 30_000_000
 MAX_MEMORY = 60_000
 MEASURED = """
@@ -111,8 +113,10 @@ class LinearPrograms(unittest.TestCase):
         self.assertEqual(size, ModelSize(3, 3, 5))
         self.assertEqual(
             text,
-            "Minimize\n obj: +10 x1 +20 x2 +5 x3\nSubject To\n c1: +1 x1 +1 x2 >= 1\n c2: +1 x2 +1 x3 >= 1\n"
-            " c3: -1 x1 -1 x2 -1 x3 >= -2\nBinary\n x1 x2 x3\nEnd\n",
+            (
+                "Minimize\n obj: +10 x1 +20 x2 +5 x3\nSubject To\n c1: +1 x1 +1 x2 >= 1\n c2: +1 x2"
+                " +1 x3 >= 1\n c3: -1 x1 -1 x2 -1 x3 >= -2\nBinary\n x1 x2 x3\nEnd\n"
+            ),
         )
 
     def test_an_objective_whose_coefficients_are_zero(self):
@@ -165,14 +169,26 @@ class LinearPrograms(unittest.TestCase):
             "* #variable= 1 #constraint= 2\n+1 x1 >= 1 ;\n": "announces 2",
             "* #variable= 1 #constraint= 1\n+1 x1 = 1 ;\n": "no `>=`",
             "* #variable= 1 #constraint= 1\n+1 ~x1 >= 1 ;\n": "no linear terms",
-            "* #variable= 1 #constraint= 1\nmin: +1 x1 x2 ;\n+1 x1 >= 1 ;\n": "no linear terms as `inrc2pb encode` writes them: x2$",
-            "* #variable= 1 #constraint= 1\nmin: +1 x1+1 x2 ;\n+1 x1 >= 1 ;\n": "no linear terms .*: \\+1 x1\\+1 x2$",
-            f"* #variable= 1 #constraint= 1\n+1 x1 +{'1' * 40} x2 >= 1 ;\n": f"no linear terms .*: \\+{'1' * 40} x2$",
+            "* #variable= 1 #constraint= 1\nmin: +1 x1 x2 ;\n+1 x1 >= 1 ;\n": (
+                "no linear terms as `inrc2pb encode` writes them: x2$"
+            ),
+            "* #variable= 1 #constraint= 1\nmin: +1 x1+1 x2 ;\n+1 x1 >= 1 ;\n": (
+                "no linear terms .*: \\+1 x1\\+1 x2$"
+            ),
+            f"* #variable= 1 #constraint= 1\n+1 x1 +{'1' * 40} x2 >= 1 ;\n": (
+                f"no linear terms .*: \\+{'1' * 40} x2$"
+            ),
             f"* #variable= 1 #constraint= 1\n+1 x1 +1 x{'1' * 11} >= 1 ;\n": "no linear terms",
-            f"* #variable= 1 #constraint= 1\n+1 x1 >= {'1' * 18} ;\n": "degree of 17 digits or less",
+            f"* #variable= 1 #constraint= 1\n+1 x1 >= {'1' * 18} ;\n": (
+                "degree of 17 digits or less"
+            ),
             f"* #variable= {'9' * 11} #constraint= 1\n": "does not begin",
-            "* #variable= 9 #constraint= 1\nmin: +1 x9 +1 x10 ;\n+1 x1 >= 1 ;\n": "variables after x9, the last that it announces",
-            "* #variable= 10 #constraint= 1\n+1 x9 +1 x11 +1 x2 >= 1 ;\n": "variables after x10, the last that it announces",
+            "* #variable= 9 #constraint= 1\nmin: +1 x9 +1 x10 ;\n+1 x1 >= 1 ;\n": (
+                "variables after x9, the last that it announces"
+            ),
+            "* #variable= 10 #constraint= 1\n+1 x9 +1 x11 +1 x2 >= 1 ;\n": (
+                "variables after x10, the last that it announces"
+            ),
         }
         for model, says in rows.items():
             with self.subTest(model=model), self.assertRaisesRegex(ModelFault, says):
@@ -190,7 +206,8 @@ class LinearPrograms(unittest.TestCase):
 
     def test_an_lp_file_is_whole_or_as_it_was(self):
         with tempfile.TemporaryDirectory() as folder:
-            model, lp = Path(folder, "week.opb"), Path(folder, "week.lp")
+            model = Path(folder, "week.opb")
+            lp = Path(folder, "week.lp")
             lp.write_text("old")
             model.write_text((SOLUTIONS / "model.opb").read_text() + "+1 x1")
             with self.assertRaises(ModelFault):
@@ -300,6 +317,13 @@ class Solutions(unittest.TestCase):
         rows = {
             "hello\n": "no known result file",
             "c Problem:\nj 1 1\n": "line 1 is of no known result file: c Problem:",
+            **{
+                f"{line}\n": (
+                    f"^line 1 shows that this is an answer already: {line}: give it to inrc2pb"
+                    " decode as it is$"
+                )
+                for line in ("s UNKNOWN", "s OPTIMUM FOUND", "o 320", "v x1 -x2")
+            },
             "x1 1\ny2 1\n": "line 2: 'y2'",
             "x1 1\nx2\n": "line 2 has no value",
             "x1 0\n": "no variable that is 1",
@@ -329,7 +353,8 @@ class InstalledSolvers(unittest.TestCase):
             if not shutil.which(name):
                 continue
             with self.subTest(solver=name), tempfile.TemporaryDirectory() as folder:
-                lp, sol = Path(folder, "model.lp"), Path(folder, "model.sol")
+                lp = Path(folder, "model.lp")
+                sol = Path(folder, "model.sol")
                 convert(SOLUTIONS / "model.opb", lp)
                 words = [word.format(lp=lp, sol=sol) for word in command]
                 subprocess.run(words, stdout=subprocess.DEVNULL, check=True, timeout=600)

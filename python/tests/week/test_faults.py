@@ -2,7 +2,8 @@
 
 import unittest
 
-from ward import HISTORY, SCENARIO, HelperTest, run
+import pytest
+from ward import HISTORY, SCENARIO, HelperTest, files, run
 
 from inrc2pb.week.faults import FileFault, fault_line
 
@@ -22,6 +23,36 @@ class Lines(HelperTest):
         history = self.changed(HISTORY, "Bruno", "\x1b[2J")
         status, printed, _ = run("roster", "check", "--sce", SCENARIO, "--his", history)
         self.assertEqual((status, printed.split(": ")[1]), (1, "'\\x1b[2J' is no nurse of NURSES"))
+
+
+def fault_of(folder, data):
+    """The fault of a ward's file with these bytes."""
+    path = folder / "ward.txt"
+    path.write_bytes(data)
+    with pytest.raises(FileFault) as caught:
+        files.read_scenario(path)
+    return caught.value
+
+
+def test_a_byte_order_mark_is_in_the_first_line(tmp_path):
+    fault = fault_of(tmp_path, b"\xef\xbb\xbf" + SCENARIO.read_bytes())
+    assert (fault.line, "byte order mark" in fault.message) == (1, True)
+
+
+@pytest.mark.parametrize(
+    ("old", "new", "is_in_a_name"),
+    [
+        ("SCENARIO = ward", "SCENARIO = wa(rd", True),
+        ("SCENARIO = ward", "SCENARIO = ward (", False),
+        ("Amara Full", "Am=ara Full", True),
+        ("Amara Full", "Amara( Full", True),
+        ("Amara Full", "Amara = Full", False),
+        ("Amara Full", "Amara 2, Full", False),
+    ],
+)
+def test_a_sign_in_a_name_is_told_from_one_beside_it(tmp_path, old, new, is_in_a_name):
+    fault = fault_of(tmp_path, SCENARIO.read_text().replace(old, new, 1).encode())
+    assert ("a name may have none of ( ) , =" in fault.message) == is_in_a_name
 
 
 if __name__ == "__main__":

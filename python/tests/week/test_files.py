@@ -20,7 +20,8 @@ class RoundTrips(HelperTest):
 
     def test_bytes_that_are_no_text_are_kept(self):
         raw = ROSTER.read_bytes().replace(b"Amara", b"Am\xffra")
-        path, copy = self.folder / "roster.txt", self.folder / "copy.txt"
+        path = self.folder / "roster.txt"
+        copy = self.folder / "copy.txt"
         path.write_bytes(raw)
         files.write_solution(copy, files.read_solution(path))
         self.assertEqual(copy.read_bytes(), raw)
@@ -37,7 +38,8 @@ class RoundTrips(HelperTest):
         )
 
     def test_a_new_file_has_the_permissions_of_the_umask(self):
-        new, private = self.folder / "new.txt", self.folder / "private.txt"
+        new = self.folder / "new.txt"
+        private = self.folder / "private.txt"
         private.write_text("old")
         private.chmod(0o600)
         self.addCleanup(os.umask, os.umask(0o027))

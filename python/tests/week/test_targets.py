@@ -1,4 +1,5 @@
-"""Tests of files that cannot or may not be written: a full disk, folders without permission, paths that are no files, and inputs."""
+"""Tests of files that cannot or may not be written: a full disk, folders without permission, paths
+that are no files, and inputs."""
 
 import contextlib
 import io
@@ -25,13 +26,20 @@ from inrc2pb.commands import command
 from inrc2pb.commands.solve import main
 
 # The advice of a fault of the operating system.
-FULL = "No space left on device: the disk is full: free some space, or choose another folder (TMPDIR has the temporary files)"
-RIGHTS = "you may not read or write it: look at its permissions and those of its folder, or choose another folder"
+FULL = (
+    "No space left on device: the disk is full: free some space, or choose another folder (TMPDIR"
+    " has the temporary files)"
+)
+RIGHTS = (
+    "you may not read or write it: look at its permissions and those of its folder, or choose"
+    " another folder"
+)
 
 
 @unittest.skipUnless(shutil.which("cbc"), "needs cbc")
 class Targets(HelperTest):
-    """Rosters that cannot be written, also by root. The fault is one line with advice, the status is 3, and an older roster stays."""
+    """Rosters that cannot be written, also by root. The fault is one line with advice, the status
+    is 3, and an older roster stays."""
 
     def improve(self, target):
         return run("solve", *WEEK_OPTIONS, "--out", target, "--time", ENOUGH)
@@ -79,20 +87,25 @@ class Targets(HelperTest):
 
     @unittest.skipUnless(Path("/dev/full").exists(), "needs /dev/full")
     def test_a_disk_that_is_full_in_mid_search(self):
-        """The first roster is written, after a test file; the disk is full when a better one comes."""
-        roster, link = self.folder / "roster.txt", self.folder / "link.txt"
+        """The first roster is written, after a test file; the disk is full when a better one
+        comes."""
+        roster = self.folder / "roster.txt"
+        link = self.folder / "link.txt"
         start = self.swapped("Amara", "Bruno")
         link.symlink_to(roster)
         for target in (roster, link):
-            with self.subTest(target.name), contextlib.redirect_stderr(
-                io.TextIOWrapper(io.BytesIO())
-            ) as said:
+            with (
+                self.subTest(target.name),
+                contextlib.redirect_stderr(io.TextIOWrapper(io.BytesIO())) as said,
+            ):
                 shutil.copy(start, roster)
                 words = [*WEEK_OPTIONS, "--roster", start, "--out", target, "--time", ENOUGH]
                 unchanged = mock.patch("inrc2pb.commands.command._catch_signals")
-                with mock.patch("sys.argv", ["inrc2pb-solve"]), mock.patch(
-                    "os.open", self.full_after(2)
-                ), unchanged:
+                with (
+                    mock.patch("sys.argv", ["inrc2pb-solve"]),
+                    mock.patch("os.open", self.full_after(2)),
+                    unchanged,
+                ):
                     with self.assertRaises(SystemExit) as ended, contextlib.redirect_stdout(
                         io.TextIOWrapper(io.BytesIO())
                     ):
@@ -110,7 +123,8 @@ class Targets(HelperTest):
                 )
 
     def full_after(self, count):
-        """As `os.open`, but after so many files next to the roster, what is written to one goes to a full disk."""
+        """As `os.open`, but after so many files next to the roster, what is written to one goes to
+        a full disk."""
         real = os.open
 
         def opened(path, flags, *more, **named):
@@ -130,7 +144,8 @@ class InputsStay(HelperTest):
     """An output that is an input, by its path or by a link, is refused, and the input stays."""
 
     def test_each_command_refuses_it(self):
-        roster, model = self.folder / "roster-0.txt", self.folder / "week.opb"
+        roster = self.folder / "roster-0.txt"
+        model = self.folder / "week.opb"
         program.encode(WEEK_FILES, model)
         shutil.copy(ROSTER, roster)
         week = {
@@ -150,7 +165,8 @@ class InputsStay(HelperTest):
             SCENARIO,
             "--his",
         )
-        goes_on, competes = ("roster", "next", "--sce", SCENARIO, "--his"), (
+        goes_on = ("roster", "next", "--sce", SCENARIO, "--his")
+        competes = (
             "solve",
             "--inrc2",
             *of_week,
@@ -196,7 +212,10 @@ class InputsStay(HelperTest):
             link.symlink_to(input_file)
             for path in [[input_file], [link]] if target == "file" else [[]]:
                 with self.subTest(what, path=path):
-                    line = f"{input_file} is read, so {what} cannot be written to it: choose another {target}"
+                    line = (
+                        f"{input_file} is read, so {what} cannot be written to it: choose another"
+                        f" {target}"
+                    )
                     self.assert_fault(run(*words, *path), f"inrc2pb-{words[0]}: {line}")
                     self.assertEqual(Path(input_file).read_bytes(), before)
             link.unlink()

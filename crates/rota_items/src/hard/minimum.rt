@@ -14,12 +14,9 @@ use rota_core::{DAYS, Instance, Rule};
 
 // The row of a day's shift type and skill: at least the minimum number of nurses.
 fn minimum_row(instance: &Instance, day: u8, shift: u8, skill: u8) -> HardRow
-    requires day_in { day < DAYS }
-    requires shift_in { shift < (problem_of instance.now).shifts }
-    requires skill_in { skill < (problem_of instance.now).skills }
     ensures row { let problem = problem_of instance.now in
         hard_row_of problem result ≡ h2_row problem day shift skill }
-    ensures sum_in { IsSumOf (problem_of instance.now) result.sum }
+    ensures sum_in { IsSumOf result.sum }
 {
     HardRow {
         rule: Rule::H2,
@@ -36,8 +33,6 @@ fn visit_shift<T: RowTaker>(
     day: u8,
     shift: u8,
 ) -> Result<(), T::Fault>
-    requires day_in { day < DAYS }
-    requires shift_in { shift < (problem_of instance.now).shifts }
     ensures { let problem = problem_of instance.now in
         TakesRows T.RowTaker problem (concat_below problem.skills (h2_rows_at problem day shift))
         taker.old taker.new result }
@@ -53,7 +48,6 @@ fn visit_shift<T: RowTaker>(
 // The minimum number of nurses for each shift type and skill of a day.
 #[tactic(auto, using(crate::proofs::LoopSteps::row_loops))]
 fn visit_day<T: RowTaker>(instance: &Instance, taker: &mut T, day: u8) -> Result<(), T::Fault>
-    requires day_in { day < DAYS }
     ensures { let problem = problem_of instance.now in
         TakesRows T.RowTaker problem (concat_below problem.shifts (λ shift. concat_below problem.skills (h2_rows_at problem day shift)))
         taker.old taker.new result }

@@ -13,7 +13,6 @@ use rota_core::{DAYS, Instance, Rule};
 // At most one cell for each day of the nurse.
 #[tactic(auto, using(crate::proofs::LoopSteps::row_loops))]
 fn visit_nurse<T: RowTaker>(instance: &Instance, taker: &mut T, nurse: u16) -> Result<(), T::Fault>
-    requires nurse_in { nurse < (problem_of instance.now).nurses }
     ensures { let problem = problem_of instance.now in
         TakesRows T.RowTaker problem (concat_below DAYS (λ day. h1_row problem nurse day ∷ []))
         taker.old taker.new result }

@@ -37,7 +37,7 @@ pub trait RowTaker {
 
     /// Takes a row of the instance's week.
     fn row(&mut self, instance: &Instance, row: HardRow) -> Result<(), Self::Fault>
-        requires { IsSumOf (problem_of instance.now) row.sum }
+        requires { IsSumOf row.sum }
         ensures { let problem = problem_of instance.now in
             let one = numbered_row problem (hard_row_of problem row) in
             MatchResult result

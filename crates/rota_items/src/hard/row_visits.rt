@@ -16,7 +16,7 @@ pub fn emit_row<T: RowTaker>(
     taker: &mut T,
     row: HardRow,
 ) -> Result<(), T::Fault>
-    requires { IsSumOf (problem_of instance.now) row.sum }
+    requires { IsSumOf row.sum }
     ensures { let problem = problem_of instance.now in
         TakesRows T.RowTaker problem (hard_row_of problem row ∷ []) taker.old taker.new result }
 {
@@ -31,7 +31,7 @@ pub fn emit_row_if<T: RowTaker>(
     there: bool,
     row: HardRow,
 ) -> Result<(), T::Fault>
-    requires { IsSumOf (problem_of instance.now) row.sum }
+    requires { IsSumOf row.sum }
     ensures { let problem = problem_of instance.now in
         TakesRows T.RowTaker problem (singleton_if there (hard_row_of problem row)) taker.old taker.new result }
 {

@@ -13,7 +13,6 @@ use rota_core::{Instance, Rule};
 // No cell that needs a skill, for each skill that the nurse does not have.
 #[tactic(auto, using(crate::proofs::LoopSteps::row_loops))]
 fn visit_nurse<T: RowTaker>(instance: &Instance, taker: &mut T, nurse: u16) -> Result<(), T::Fault>
-    requires nurse_in { nurse < (problem_of instance.now).nurses }
     ensures { let problem = problem_of instance.now in
         TakesRows T.RowTaker problem (concat_below problem.skills (h4_rows_at problem nurse)) taker.old taker.new result }
 {

@@ -13,8 +13,6 @@ use rota_core::{DAYS, Instance, Rule};
 
 // Whether the nurse may not have the shift type on Monday, after the last one of the history.
 fn forbidden_on_monday(instance: &Instance, nurse: u16, shift: u8) -> bool
-    requires nurse_in { nurse < (problem_of instance.now).nurses }
-    requires shift_in { shift < (problem_of instance.now).shifts }
     ensures { let problem = problem_of instance.now in
         result ≡ is_forbidden_after problem (problem.past nurse).last shift }
 {
@@ -27,7 +25,6 @@ fn forbidden_on_monday(instance: &Instance, nurse: u16, shift: u8) -> bool
 // The shift types that a nurse may not have on Monday, after the last one of the history.
 #[tactic(auto, using(crate::proofs::LoopSteps::row_loops))]
 fn visit_monday<T: RowTaker>(instance: &Instance, taker: &mut T, nurse: u16) -> Result<(), T::Fault>
-    requires nurse_in { nurse < (problem_of instance.now).nurses }
     ensures { let problem = problem_of instance.now in
         TakesRows T.RowTaker problem (h3_monday_rows problem nurse) taker.old taker.new result }
 {
@@ -60,9 +57,7 @@ fn visit_after<T: RowTaker>(
     day: u8,
     first: u8,
 ) -> Result<(), T::Fault>
-    requires nurse_in { nurse < (problem_of instance.now).nurses }
     requires day_in { day + 1 < DAYS }
-    requires first_in { first < (problem_of instance.now).shifts }
     ensures { let problem = problem_of instance.now in
         TakesRows T.RowTaker problem (concat_below problem.shifts (h3_rows_at problem nurse day first))
         taker.old taker.new result }
@@ -91,7 +86,6 @@ fn visit_between<T: RowTaker>(
     nurse: u16,
     day: u8,
 ) -> Result<(), T::Fault>
-    requires nurse_in { nurse < (problem_of instance.now).nurses }
     requires day_in { day + 1 < DAYS }
     ensures { let problem = problem_of instance.now in
         TakesRows T.RowTaker problem (h3_rows_between problem nurse day) taker.old taker.new result }
@@ -105,7 +99,6 @@ fn visit_between<T: RowTaker>(
 // The forbidden successions of a nurse within the week.
 #[tactic(auto, using(crate::proofs::LoopSteps::row_loops))]
 fn visit_days<T: RowTaker>(instance: &Instance, taker: &mut T, nurse: u16) -> Result<(), T::Fault>
-    requires nurse_in { nurse < (problem_of instance.now).nurses }
     ensures { let problem = problem_of instance.now in
         TakesRows T.RowTaker problem (concat_below (DAYS - 1) (h3_rows_between problem nurse))
         taker.old taker.new result }
@@ -119,7 +112,6 @@ fn visit_days<T: RowTaker>(instance: &Instance, taker: &mut T, nurse: u16) -> Re
 // The forbidden successions of a nurse.
 #[tactic(auto, using(crate::proofs::Taking::calling), unfolding(crate::specs::SentItems::numbered_rows))]
 fn visit_nurse<T: RowTaker>(instance: &Instance, taker: &mut T, nurse: u16) -> Result<(), T::Fault>
-    requires nurse_in { nurse < (problem_of instance.now).nurses }
     ensures { let problem = problem_of instance.now in
         TakesRows T.RowTaker problem (h3_rows_of problem nurse) taker.old taker.new result }
 {

@@ -26,7 +26,7 @@ pub trait ItemTaker {
 
     /// Takes an item of the instance's week.
     fn item(&mut self, instance: &Instance, item: SoftItem) -> Result<(), Self::Fault>
-        requires { IsSumOf (problem_of instance.now) item.sum }
+        requires { IsSumOf item.sum }
         ensures { let one = numbered_item (problem_of instance.now) item in
             MatchResult result
             (λ _. value self.new ≡ step (value self.old) one)

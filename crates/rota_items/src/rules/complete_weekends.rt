@@ -15,7 +15,6 @@ use rota_rules::COMPLETE_WEEKEND_WEIGHT;
 /// Saturday without Sunday, and Sunday without Saturday, if the contract asks for complete weekends.
 #[tactic(auto, using(crate::proofs::Taking::taking), unfolding(crate::specs::SentItems::numbered_list))]
 pub fn visit<T: ItemTaker>(instance: &Instance, taker: &mut T, nurse: u16) -> Result<(), T::Fault>
-    requires nurse_in { nurse < (problem_of instance.now).nurses }
     ensures { let problem = problem_of instance.now in
         TakesItems T.ItemTaker problem (complete_weekends_of problem nurse) taker.old taker.new result }
 {

@@ -2,7 +2,7 @@
 ghost use Rattle.std.specs.Prelude.{◌≡◌, ◌<◌};
 ghost use Rattle.rota_core.specs.InstanceTables.{problem_of};
 ghost use Rattle.rota_items.specs.Takes.{TakesItems};
-ghost use Rattle.rota_items.specs.SentItems.{IsChargeOf, runs_of};
+ghost use Rattle.rota_items.specs.SentItems.{runs_of};
 ghost use Rattle.rota_items.specs.rules.ConsecutiveAssignments.{assignment_runs_of, shift_runs, work_runs};
 ghost use Rattle.rota_rules.specs.ConsecutiveAssignments.{history_on};
 
@@ -14,7 +14,6 @@ use rota_rules::{SHIFT_RUN_WEIGHT, WORK_RUN_WEIGHT};
 
 // The length of the run on the shift type that the days before Monday left.
 fn history_on(instance: &Instance, nurse: u16, shift: u8) -> u16
-    requires { nurse < (problem_of instance.now).nurses }
     ensures { result ≡ history_on (problem_of instance.now) nurse shift }
 {
     let past = instance.past(nurse);
@@ -26,9 +25,6 @@ fn history_on(instance: &Instance, nurse: u16, shift: u8) -> u16
 
 // A nurse's runs on a shift type.
 fn shift_runs(instance: &Instance, nurse: u16, shift: u8) -> NurseRuns
-    requires nurse_in { nurse < (problem_of instance.now).nurses }
-    requires shift_in { shift < (problem_of instance.now).shifts }
-    ensures charge_in { IsChargeOf (problem_of instance.now) result.charge }
     ensures runs { let problem = problem_of instance.now in runs_of problem result ≡ shift_runs problem nurse shift }
 {
     NurseRuns {
@@ -45,8 +41,6 @@ fn shift_runs(instance: &Instance, nurse: u16, shift: u8) -> NurseRuns
 
 // A nurse's runs of working days.
 fn work_runs(instance: &Instance, nurse: u16) -> NurseRuns
-    requires { nurse < (problem_of instance.now).nurses }
-    ensures charge_in { IsChargeOf (problem_of instance.now) result.charge }
     ensures runs { let problem = problem_of instance.now in runs_of problem result ≡ work_runs problem nurse }
 {
     NurseRuns {
@@ -64,7 +58,6 @@ fn work_runs(instance: &Instance, nurse: u16) -> NurseRuns
 /// A nurse's runs on each shift type, then her runs of working days.
 #[tactic(auto, using(crate::proofs::Taking::taking), unfolding(crate::specs::SentItems::numbered_list))]
 pub fn visit<T: RunTaker>(instance: &Instance, taker: &mut T, nurse: u16) -> Result<(), T::Fault>
-    requires nurse_in { nurse < (problem_of instance.now).nurses }
     ensures { let problem = problem_of instance.now in
         TakesItems T.ItemTaker problem (assignment_runs_of problem nurse) taker.old taker.new result }
 {

@@ -13,7 +13,6 @@ use rota_rules::OFF_RUN_WEIGHT;
 
 /// A nurse's runs of days off.
 pub fn visit<T: RunTaker>(instance: &Instance, taker: &mut T, nurse: u16) -> Result<(), T::Fault>
-    requires nurse_in { nurse < (problem_of instance.now).nurses }
     ensures { let problem = problem_of instance.now in
         TakesItems T.ItemTaker problem (run_items (off_runs problem nurse)) taker.old taker.new result }
 {

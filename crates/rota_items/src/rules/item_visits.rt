@@ -17,7 +17,7 @@ pub fn emit_item_if<T: ItemTaker>(
     there: bool,
     item: SoftItem,
 ) -> Result<(), T::Fault>
-    requires { IsSumOf (problem_of instance.now) item.sum }
+    requires { IsSumOf item.sum }
     ensures { let problem = problem_of instance.now in
         TakesItems T.ItemTaker problem (singleton_if there (item_of problem item)) taker.old taker.new result }
 {

@@ -16,12 +16,9 @@ use rota_rules::OPTIMUM_WEIGHT;
 
 // The item of a day's shift type and skill: each nurse missing below the optimal number.
 fn optimum_item(instance: &Instance, day: u8, shift: u8, skill: u8) -> SoftItem
-    requires day_in { day < DAYS }
-    requires shift_in { shift < (problem_of instance.now).shifts }
-    requires skill_in { skill < (problem_of instance.now).skills }
     ensures item { let problem = problem_of instance.now in
         item_of problem result ≡ optimum_item problem day shift skill }
-    ensures sum_in { IsSumOf (problem_of instance.now) result.sum }
+    ensures sum_in { IsSumOf result.sum }
 {
     let demand = instance.demand(day, shift, skill);
     SoftItem {
@@ -35,9 +32,6 @@ fn optimum_item(instance: &Instance, day: u8, shift: u8, skill: u8) -> SoftItem
 
 // Whether the optimal number of nurses is above the minimum.
 fn is_above_minimum(instance: &Instance, day: u8, shift: u8, skill: u8) -> bool
-    requires day_in { day < DAYS }
-    requires shift_in { shift < (problem_of instance.now).shifts }
-    requires skill_in { skill < (problem_of instance.now).skills }
     ensures { let demand = (problem_of instance.now).demand day shift skill in
         result ≡ nat_lt demand.minimum demand.optimal }
 {
@@ -53,8 +47,6 @@ fn visit_shift<T: ItemTaker>(
     day: u8,
     shift: u8,
 ) -> Result<(), T::Fault>
-    requires day_in { day < DAYS }
-    requires shift_in { shift < (problem_of instance.now).shifts }
     ensures { let problem = problem_of instance.now in
         TakesItems T.ItemTaker problem (concat_below problem.skills (optimum_items_at problem day shift))
         taker.old taker.new result }
@@ -70,7 +62,6 @@ fn visit_shift<T: ItemTaker>(
 // The nurses missing for each shift type and skill of a day.
 #[tactic(auto, using(crate::proofs::LoopSteps::item_loops))]
 fn visit_day<T: ItemTaker>(instance: &Instance, taker: &mut T, day: u8) -> Result<(), T::Fault>
-    requires day_in { day < DAYS }
     ensures { let problem = problem_of instance.now in
         TakesItems T.ItemTaker problem
         (concat_below problem.shifts (λ shift. concat_below problem.skills (optimum_items_at problem day shift)))

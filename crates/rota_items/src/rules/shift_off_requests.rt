@@ -30,9 +30,6 @@ fn emit_terms_on<T: Taker>(
     day: u8,
     shift: u8,
 ) -> Result<(), T::Fault>
-    requires nurse_in { nurse < (problem_of instance.now).nurses }
-    requires day_in { day < DAYS }
-    requires shift_in { shift < (problem_of instance.now).shifts }
     ensures { let problem = problem_of instance.now in
         Takes T.Taker (cell_term_events problem (request_terms_on problem nurse day shift))
         taker.old taker.new result }
@@ -59,8 +56,6 @@ fn emit_terms_of_day<T: Taker>(
     nurse: u16,
     day: u8,
 ) -> Result<(), T::Fault>
-    requires nurse_in { nurse < (problem_of instance.now).nurses }
-    requires day_in { day < DAYS }
     ensures { let problem = problem_of instance.now in
         Takes T.Taker (cell_term_events problem (concat_below problem.shifts (request_terms_on problem nurse day)))
         taker.old taker.new result }
@@ -78,7 +73,6 @@ fn emit_terms_of_nurse<T: Taker>(
     taker: &mut T,
     nurse: u16,
 ) -> Result<(), T::Fault>
-    requires nurse_in { nurse < (problem_of instance.now).nurses }
     ensures { let problem = problem_of instance.now in
         Takes T.Taker (cell_term_events problem
         (concat_below DAYS (λ day. concat_below problem.shifts (request_terms_on problem nurse day))))
@@ -104,9 +98,6 @@ pub fn emit_terms<T: Taker>(instance: &Instance, taker: &mut T) -> Result<(), T:
 
 // Whether a nurse's day has terms on a shift type.
 fn has_terms_on(instance: &Instance, nurse: u16, day: u8, shift: u8) -> bool
-    requires nurse_in { nurse < (problem_of instance.now).nurses }
-    requires day_in { day < DAYS }
-    requires shift_in { shift < (problem_of instance.now).shifts }
     ensures { result ≡ nat_lt 0 (length (request_terms_on (problem_of instance.now) nurse day shift)) }
 {
     instance.requests(nurse, day, shift) > 0 && instance.skills() > 0

@@ -19,7 +19,6 @@ use rota_rules::ASSIGNMENT_WEIGHT;
 
 // The number of assignments that the nurse still needs for her minimum total.
 fn still_wanted(instance: &Instance, nurse: u16) -> u16
-    requires { nurse < (problem_of instance.now).nurses }
     ensures { result ≡ still_wanted (problem_of instance.now) nurse }
 {
     let minimum = instance.contract(nurse).total.min;
@@ -28,7 +27,6 @@ fn still_wanted(instance: &Instance, nurse: u16) -> u16
 
 // The number of assignments that the nurse may still have without exceeding her maximum total.
 fn still_allowed(instance: &Instance, nurse: u16) -> u16
-    requires { nurse < (problem_of instance.now).nurses }
     ensures { result ≡ still_allowed (problem_of instance.now) nurse }
 {
     let maximum = instance.contract(nurse).total.max;
@@ -37,7 +35,6 @@ fn still_allowed(instance: &Instance, nurse: u16) -> u16
 
 // Whether the minimum total counts and needs more assignments.
 fn asks_for_more(instance: &Instance, nurse: u16) -> bool
-    requires { nurse < (problem_of instance.now).nurses }
     ensures { let problem = problem_of instance.now in
         result ≡ (problem.is_last && nat_lt 0 (still_wanted problem nurse)) }
 {
@@ -46,7 +43,6 @@ fn asks_for_more(instance: &Instance, nurse: u16) -> bool
 
 // Whether the maximum total counts and the week can exceed it.
 fn can_exceed(instance: &Instance, nurse: u16) -> bool
-    requires { nurse < (problem_of instance.now).nurses }
     ensures { let problem = problem_of instance.now in
         result ≡ (max_totals_count problem && nat_lt (still_allowed problem nurse) DAYS) }
 {
@@ -55,9 +51,8 @@ fn can_exceed(instance: &Instance, nurse: u16) -> bool
 
 // The item of a nurse's minimum total: the assignments that are still needed, at most one a day.
 fn min_total(instance: &Instance, nurse: u16) -> SoftItem
-    requires nurse_in { nurse < (problem_of instance.now).nurses }
     ensures item { let problem = problem_of instance.now in item_of problem result ≡ min_total_item problem nurse }
-    ensures sum_in { IsSumOf (problem_of instance.now) result.sum }
+    ensures sum_in { IsSumOf result.sum }
 {
     let missing = still_wanted(instance, nurse).min(u16::from(DAYS));
     SoftItem {
@@ -74,9 +69,8 @@ fn min_total(instance: &Instance, nurse: u16) -> SoftItem
 
 // The item of a nurse's maximum total: no more assignments than are allowed.
 fn max_total(instance: &Instance, nurse: u16) -> SoftItem
-    requires nurse_in { nurse < (problem_of instance.now).nurses }
     ensures item { let problem = problem_of instance.now in item_of problem result ≡ max_total_item problem nurse }
-    ensures sum_in { IsSumOf (problem_of instance.now) result.sum }
+    ensures sum_in { IsSumOf result.sum }
 {
     let room = still_allowed(instance, nurse);
     SoftItem {
@@ -95,7 +89,6 @@ fn max_total(instance: &Instance, nurse: u16) -> SoftItem
 /// if it counts and the week can exceed it.
 #[tactic(auto, using(crate::proofs::Taking::calling), unfolding(crate::specs::SentItems::numbered_list))]
 pub fn visit<T: ItemTaker>(instance: &Instance, taker: &mut T, nurse: u16) -> Result<(), T::Fault>
-    requires nurse_in { nurse < (problem_of instance.now).nurses }
     ensures { let problem = problem_of instance.now in
         TakesItems T.ItemTaker problem (totals_of problem nurse) taker.old taker.new result }
 {
@@ -107,7 +100,6 @@ pub fn visit<T: ItemTaker>(instance: &Instance, taker: &mut T, nurse: u16) -> Re
 
 // The number of needed assignments beyond one for each day of the week.
 fn wanted_beyond_days(instance: &Instance, nurse: u16) -> u16
-    requires { nurse < (problem_of instance.now).nurses }
     ensures { result ≡ wanted_beyond_days (problem_of instance.now) nurse }
 {
     if !instance.last_week() {
@@ -118,7 +110,6 @@ fn wanted_beyond_days(instance: &Instance, nurse: u16) -> u16
 
 // The number of the nurse's assignments in the history above her maximum total.
 fn assignments_above(instance: &Instance, nurse: u16) -> u16
-    requires { nurse < (problem_of instance.now).nurses }
     ensures { result ≡ assignments_above (problem_of instance.now) nurse }
 {
     if !excess_before_counts(instance) {
@@ -131,7 +122,6 @@ fn assignments_above(instance: &Instance, nurse: u16) -> u16
 /// A nurse's part of the constant, which no roster that keeps H1 can avoid: needed assignments beyond seven,
 /// and, unless excess is charged early, assignments in the history above the maximum total.
 pub fn constant(instance: &Instance, nurse: u16) -> u64
-    requires { nurse < (problem_of instance.now).nurses }
     ensures { result ≡ assignment_constant_of (problem_of instance.now) nurse }
 {
     let wanted = u64::from(wanted_beyond_days(instance, nurse));

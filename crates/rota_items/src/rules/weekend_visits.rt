@@ -3,7 +3,7 @@ ghost use Rattle.std.specs.Prelude.{◌≡◌, [], ◌∷◌};
 ghost use Rattle.rota_core.specs.InstanceTables.{problem_of};
 ghost use Rattle.rota_items.specs.Takes.{TakesItems};
 ghost use Rattle.rota_items.specs.CellSums.{IsInWeek, pattern_of};
-ghost use Rattle.rota_items.specs.SentItems.{IsChargeOf, charged_items};
+ghost use Rattle.rota_items.specs.SentItems.{charged_items};
 ghost use Rattle.rota_items.specs.RunItems.{only_sunday, saturday};
 
 use crate::cell_sum::DayPattern;
@@ -49,7 +49,6 @@ pub fn visit_weekend<T: ItemTaker>(
     charge: RunCharge,
     alone: bool,
 ) -> Result<(), T::Fault>
-    requires charge_in { IsChargeOf (problem_of instance.now) charge }
     ensures { let problem = problem_of instance.now in
         TakesItems T.ItemTaker problem (charged_items problem charge (saturday alone ∷ only_sunday ∷ []))
         taker.old taker.new result }

@@ -16,7 +16,6 @@ use rota_rules::WORKED_WEEKEND_WEIGHT;
 // Whether a weekend that the nurse works now is charged: the number of weekends before is at least the
 // maximum of her contract.
 fn is_charged(instance: &Instance, nurse: u16) -> bool
-    requires { nurse < (problem_of instance.now).nurses }
     ensures { let problem = problem_of instance.now in
         result ≡ (max_totals_count problem && nat_le (problem.contract nurse).weekends (problem.past nurse).weekends) }
 {
@@ -26,7 +25,6 @@ fn is_charged(instance: &Instance, nurse: u16) -> bool
 /// Work on Saturday, and on Sunday without Saturday, if it is charged.
 #[tactic(auto, using(crate::proofs::Taking::taking), unfolding(crate::specs::SentItems::numbered_list))]
 pub fn visit<T: ItemTaker>(instance: &Instance, taker: &mut T, nurse: u16) -> Result<(), T::Fault>
-    requires nurse_in { nurse < (problem_of instance.now).nurses }
     ensures { let problem = problem_of instance.now in
         TakesItems T.ItemTaker problem (worked_weekends_of problem nurse) taker.old taker.new result }
 {
@@ -44,7 +42,6 @@ pub fn visit<T: ItemTaker>(instance: &Instance, taker: &mut T, nurse: u16) -> Re
 
 // The number of the nurse's weekends in the history above her maximum.
 fn weekends_above(instance: &Instance, nurse: u16) -> u16
-    requires { nurse < (problem_of instance.now).nurses }
     ensures { result ≡ weekends_above (problem_of instance.now) nurse }
 {
     if !excess_before_counts(instance) {
@@ -57,7 +54,6 @@ fn weekends_above(instance: &Instance, nurse: u16) -> u16
 /// A nurse's part of the constant, which no roster of the week can avoid: the weekends in the history above
 /// her maximum, unless excess is charged early.
 pub fn constant(instance: &Instance, nurse: u16) -> u64
-    requires { nurse < (problem_of instance.now).nurses }
     ensures { result ≡ weekend_constant_of (problem_of instance.now) nurse }
 {
     u64::from(WORKED_WEEKEND_WEIGHT) * u64::from(weekends_above(instance, nurse))

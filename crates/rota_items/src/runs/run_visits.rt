@@ -3,7 +3,7 @@ ghost use Rattle.std.specs.Prelude.{◌<◌};
 ghost use Rattle.rota_core.specs.InstanceTables.{problem_of};
 ghost use Rattle.rota_core.specs.Lists.{concat_below};
 ghost use Rattle.rota_items.specs.Takes.{TakesItems};
-ghost use Rattle.rota_items.specs.SentItems.{IsChargeOf, runs_of};
+ghost use Rattle.rota_items.specs.SentItems.{runs_of};
 ghost use Rattle.rota_items.specs.RunItemParts.{pattern_items_on, window_items_on};
 ghost use Rattle.rota_items.specs.RunItems.{run_items};
 
@@ -20,7 +20,6 @@ fn visit_windows<T: ItemTaker>(
     taker: &mut T,
     runs: NurseRuns,
 ) -> Result<(), T::Fault>
-    requires charge_in { IsChargeOf (problem_of instance.now) runs.charge }
     ensures { let problem = problem_of instance.now in
         TakesItems T.ItemTaker problem (concat_below DAYS (window_items_on (runs_of problem runs)))
         taker.old taker.new result }
@@ -41,7 +40,6 @@ fn visit_patterns_on<T: ItemTaker>(
     runs: NurseRuns,
     day: u8,
 ) -> Result<(), T::Fault>
-    requires charge_in { IsChargeOf (problem_of instance.now) runs.charge }
     requires day_in { day < DAYS }
     ensures { let problem = problem_of instance.now in
         TakesItems T.ItemTaker problem (pattern_items_on (runs_of problem runs) day)
@@ -65,7 +63,6 @@ pub fn visit_runs<T: ItemTaker>(
     taker: &mut T,
     runs: NurseRuns,
 ) -> Result<(), T::Fault>
-    requires charge_in { IsChargeOf (problem_of instance.now) runs.charge }
     ensures { let problem = problem_of instance.now in
         TakesItems T.ItemTaker problem (run_items (runs_of problem runs)) taker.old taker.new result }
 {

@@ -28,7 +28,7 @@ fn emit_first_true<T: LiteralTaker>(taker: &mut T, count: u32, maximum: u64) -> 
 
 // Sends the judge the terms of an item, in a row that stays open.
 fn judge_item(instance: &Instance, judge: &mut Judge<'_>, item: SoftItem) -> Result<(), Infallible>
-    requires sum_in { IsSumOf (problem_of instance.now) item.sum }
+    requires sum_in { IsSumOf item.sum }
     ensures { judge.new ≡ with_terms_of judge.old (numbered_item (problem_of instance.now) item) }
 {
     judge.start_row(Part::Soft(item.rule, u64::from(item.weight)))?;

@@ -1,8 +1,9 @@
 use Rattle.std.proofs.Common.{◌∙◌, ap, refl, length}
 use Rattle.std.proofs.lemmas.Result.{err_from_is_err_and}
+use Rattle.byte_ports.proofs.OpenedFiles.{went}
 use Rattle.inrc2pb_bound_program.specs.BoundPrograms.BoundOutcome.{ran, unopened}
 use Rattle.inrc2pb_bound_program.specs.PeriodOpening.{open_path, open_week}
-use Rattle.inrc2pb_bound_program.proofs.PeriodOpens.{each-length, went}
+use Rattle.inrc2pb_bound_program.proofs.PeriodOpens.{each-length}
 use Rattle.inrc2pb_bound_program.proofs.job_run.perform.Goals as goal
 
 pub returns-in_err-opened : goal.returns-in_err-opened

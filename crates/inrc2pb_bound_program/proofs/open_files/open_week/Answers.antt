@@ -1,5 +1,5 @@
 use Rattle.std.proofs.Common.{refl}
-use Rattle.inrc2pb_job.proofs.OpeningLemmas.{opens_none, opens_stopped, opens_then}
+use Rattle.byte_ports.proofs.OpeningLemmas.{opens_none, opens_stopped, opens_then}
 use Rattle.inrc2pb_bound_program.proofs.open_files.open_week.Goals as goal
 
 pub returns-in_err-open : goal.returns-in_err-open

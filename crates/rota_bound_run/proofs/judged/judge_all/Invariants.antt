@@ -11,9 +11,9 @@ abbrev pub invariant-loop-index : goal.invariant-loop-index
 invariant-loop-index g l =
     let w = l.fn in
     record {
-      reads : Reads (judge_next w.weeks) (reader_of g.S.Source) [] w.files l.index l.files l.judged.rosters.items;
-      judged : AreJudged w.weeks l.index l.judged.rosters.items l.judged.penalty l.pasts.items;
-      same : l.weeks ≡ w.weeks;
+      reads : Reads (judge_next w.weeks.items) (reader_of g.S.Source) [] w.files.items l.index l.files.items l.judged.rosters.items;
+      judged : AreJudged w.weeks.items l.index l.judged.rosters.items l.judged.penalty l.pasts.items;
+      same : l.weeks.items ≡ w.weeks.items;
       count : vec_len l.judged.rosters ≡ l.index;
-      room : vec_capacity l.judged.rosters ≡ length w.weeks;
+      room : vec_capacity l.judged.rosters ≡ length w.weeks.items;
     }

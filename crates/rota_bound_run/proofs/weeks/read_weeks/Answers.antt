@@ -28,8 +28,8 @@ counted port early ward olds now result ends =
 pub loop-index-init : goal.loop-index-init
 unfolding AreWeeksFrom
 loop-index-init g c = record {
-  reads = rw c.new-weeks.ensures.items (reads-none (read_next c.args.early c.args.ward.now (length c.args.files.now))
-      (week_readers g.S.Source) [] c.args.files.now);
+  reads = rw c.new-weeks.ensures.items (reads-none (read_next c.args.early c.args.ward.now (length c.args.files.now.items))
+      (week_readers g.S.Source) [] c.args.files.now.items);
   weeks = rw c.new-weeks.ensures.items tt;
   number = ap length c.new-weeks.ensures.items;
   kept = refl;
@@ -37,69 +37,69 @@ loop-index-init g c = record {
 
 pub returns-in_err-push-in-Ok-clause-kept : goal.returns-in_err-push-in-Ok-clause-kept
 returns-in_err-push-in-Ok-clause-kept g c =
-    keeps-more c.args.files.now c.loop-index.files c.loop-index.index c.index-files-index.result c.read_period_week.new.files
-    c.loop-index.invariant.kept c.index-files-index.is (rw (← c.index-files-index.is) at c.in-Ok.ensures.kept)
+    keeps-more c.args.files.now.items c.loop-index.files.items c.loop-index.index c.index_mut.result.now c.read_period_week.new.files
+    c.loop-index.invariant.kept c.index_mut.ensures.value c.in-Ok.ensures.kept
 
 pub returns-in_err-push-in-Ok-clause-reads : goal.returns-in_err-push-in-Ok-clause-reads
 returns-in_err-push-in-Ok-clause-reads g c =
     let p = err_from_is_err_and c.from_residual.result c.from_residual.ensures.1 in
-    let step = read_next c.args.early c.args.ward.now (length c.args.files.now) in
+    let step = read_next c.args.early c.args.ward.now (length c.args.files.now.items) in
     let i = c.loop-index.index in
     let inv = c.loop-index.invariant in
-    let inside : c.loop-index.index < length c.args.files.now = omega (arith, c.loop-index-test.true) in
+    let inside : c.loop-index.index < length c.args.files.now.items = omega (arith, c.loop-index-test.true, c.len-count.ensures, c.args.files.now.ok.0) in
     rw (p.1, p.2)
-    (counted g.S.Source c.args.early c.args.ward.now c.args.files.now (slice_set c.loop-index.files i c.read_period_week.new.files) _
-    (stops-at step (week_readers g.S.Source) [] c.args.files.now i c.loop-index.files c.loop-index.weeks.items inv.reads inside
-    c.index-files-index.result c.read_period_week.new.files c.index-files-index.is
-    (reads-no-week g.S.Source c.args.early c.args.ward.now (length c.args.files.now)) _
-    (lacks-memory g.S.Source c.args.early c.args.ward.now (length c.args.files.now) c.loop-index.weeks.items i inv.number
-    c.index-files-index.result c.read_period_week.new.files c.in-Ok.week (rw (← c.index-files-index.is) at c.in-Ok.ensures.reads))))
+    (counted g.S.Source c.args.early c.args.ward.now c.args.files.now.items (slice_set c.loop-index.files.items i c.read_period_week.new.files) _
+    (stops-at step (week_readers g.S.Source) [] c.args.files.now.items i c.loop-index.files.items c.loop-index.weeks.items inv.reads inside
+    c.index_mut.result.now c.read_period_week.new.files c.index_mut.ensures.value
+    (reads-no-week g.S.Source c.args.early c.args.ward.now (length c.args.files.now.items)) _
+    (lacks-memory g.S.Source c.args.early c.args.ward.now (length c.args.files.now.items) c.loop-index.weeks.items i inv.number
+    c.index_mut.result.now c.read_period_week.new.files c.in-Ok.week c.in-Ok.ensures.reads)))
 
 pub returns-in-Err-clause-kept : goal.returns-in-Err-clause-kept
 returns-in-Err-clause-kept g c =
-    keeps-more c.args.files.now c.loop-index.files c.loop-index.index c.index-files-index.result c.read_period_week.new.files
-    c.loop-index.invariant.kept c.index-files-index.is (rw (← c.index-files-index.is) at c.in-Err.ensures.kept)
+    keeps-more c.args.files.now.items c.loop-index.files.items c.loop-index.index c.index_mut.result.now c.read_period_week.new.files
+    c.loop-index.invariant.kept c.index_mut.ensures.value c.in-Err.ensures.kept
 
 pub returns-in-Err-clause-reads : goal.returns-in-Err-clause-reads
 returns-in-Err-clause-reads g c =
-    let step = read_next c.args.early c.args.ward.now (length c.args.files.now) in
+    let step = read_next c.args.early c.args.ward.now (length c.args.files.now.items) in
     let i = c.loop-index.index in
     let inv = c.loop-index.invariant in
-    let inside : c.loop-index.index < length c.args.files.now = omega (arith, c.loop-index-test.true) in
-    rw c.in_week.ensures
-    (counted g.S.Source c.args.early c.args.ward.now c.args.files.now (slice_set c.loop-index.files i c.read_period_week.new.files) _
-    (stops-at step (week_readers g.S.Source) [] c.args.files.now i c.loop-index.files c.loop-index.weeks.items inv.reads inside
-    c.index-files-index.result c.read_period_week.new.files c.index-files-index.is
-    (reads-no-week g.S.Source c.args.early c.args.ward.now (length c.args.files.now)) _
-    (stops-week g.S.Source c.args.early c.args.ward.now (length c.args.files.now) c.loop-index.weeks.items i inv.number
-    c.index-files-index.result c.read_period_week.new.files c.in-Err.fault (rw (← c.index-files-index.is) at c.in-Err.ensures.reads))))
+    let inside : c.loop-index.index < length c.args.files.now.items = omega (arith, c.loop-index-test.true, c.len-count.ensures, c.args.files.now.ok.0) in
+    let count : c.len-count.result ≡ length c.args.files.now.items = c.len-count.ensures ∙ c.args.files.now.ok.0 in
+    rw (c.in_week.ensures, count)
+    (counted g.S.Source c.args.early c.args.ward.now c.args.files.now.items (slice_set c.loop-index.files.items i c.read_period_week.new.files) _
+    (stops-at step (week_readers g.S.Source) [] c.args.files.now.items i c.loop-index.files.items c.loop-index.weeks.items inv.reads inside
+    c.index_mut.result.now c.read_period_week.new.files c.index_mut.ensures.value
+    (reads-no-week g.S.Source c.args.early c.args.ward.now (length c.args.files.now.items)) _
+    (stops-week g.S.Source c.args.early c.args.ward.now (length c.args.files.now.items) c.loop-index.weeks.items i inv.number
+    c.index_mut.result.now c.read_period_week.new.files c.in-Err.fault c.in-Err.ensures.reads)))
 
 pub loop-index-preserved : goal.loop-index-preserved
 loop-index-preserved g c =
-    let step = read_next c.args.early c.args.ward.now (length c.args.files.now) in
+    let step = read_next c.args.early c.args.ward.now (length c.args.files.now.items) in
     let i = c.loop-index.index in
     let inv = c.loop-index.invariant in
-    let inside : c.loop-index.index < length c.args.files.now = omega (arith, c.loop-index-test.true) in
+    let inside : c.loop-index.index < length c.args.files.now.items = omega (arith, c.loop-index-test.true, c.len-count.ensures, c.args.files.now.ok.0) in
     let there : i ≡ 0 + length c.loop-index.weeks.items = omega (arith, inv.number) in
     let pushed = c.in_ok-push-in-Ok.ensures.items in
     record {
       reads =
-          reads-more step (week_readers g.S.Source) [] c.args.files.now i c.loop-index.files c.loop-index.weeks.items inv.reads inside
-          c.index-files-index.result c.read_period_week.new.files c.index-files-index.is c.push.new.self.items
-          (reads-week g.S.Source c.args.early c.args.ward.now (length c.args.files.now) c.loop-index.weeks.items i inv.number
-          c.index-files-index.result c.read_period_week.new.files c.in-Ok.week c.push.new.self.items (rw (← c.index-files-index.is) at
-          c.in-Ok.ensures.reads) pushed);
+          reads-more step (week_readers g.S.Source) [] c.args.files.now.items i c.loop-index.files.items c.loop-index.weeks.items inv.reads inside
+          c.index_mut.result.now c.read_period_week.new.files c.index_mut.ensures.value c.push.new.self.items
+          (reads-week g.S.Source c.args.early c.args.ward.now (length c.args.files.now.items) c.loop-index.weeks.items i inv.number
+          c.index_mut.result.now c.read_period_week.new.files c.in-Ok.week c.push.new.self.items c.in-Ok.ensures.reads pushed);
       weeks =
           rw pushed (weeks-more c.args.early c.args.ward.now 0 c.loop-index.weeks.items c.in-Ok.week inv.weeks
           (subst (λ (n : ℕ). IsWeekAt c.args.early c.args.ward.now n c.in-Ok.week) there c.in-Ok.ensures.week));
       number = ap length pushed ∙ length-append c.loop-index.weeks.items (c.in-Ok.week ∷ []) ∙ ap (λ (n : ℕ). n + 1) inv.number;
       kept =
-          keeps-more c.args.files.now c.loop-index.files i c.index-files-index.result c.read_period_week.new.files inv.kept
-          c.index-files-index.is (rw (← c.index-files-index.is) at c.in-Ok.ensures.kept);
+          keeps-more c.args.files.now.items c.loop-index.files.items i c.index_mut.result.now c.read_period_week.new.files inv.kept
+          c.index_mut.ensures.value c.in-Ok.ensures.kept;
     }
 
 pub returns-clause-reads : goal.returns-clause-reads
 returns-clause-reads g c =
-    counted g.S.Source c.args.early c.args.ward.now c.args.files.now c.loop-index.files _
-    (reads-all (read_next c.args.early c.args.ward.now (length c.args.files.now)) (week_readers g.S.Source) [] c.args.files.now
-    c.loop-index.index c.loop-index.files c.loop-index.weeks.items c.loop-index.invariant.reads (omega (arith, c.loop-index-test.false)))
+    counted g.S.Source c.args.early c.args.ward.now c.args.files.now.items c.loop-index.files.items _
+    (reads-all (read_next c.args.early c.args.ward.now (length c.args.files.now.items)) (week_readers g.S.Source) [] c.args.files.now.items
+    c.loop-index.index c.loop-index.files.items c.loop-index.weeks.items c.loop-index.invariant.reads (omega (arith, c.loop-index-test.false, c.len-count.ensures, c.args.files.now.ok.0)))

@@ -10,8 +10,8 @@ abbrev pub invariant-loop-index : goal.invariant-loop-index
 invariant-loop-index g l =
     let w = l.fn in
     record {
-      reads : Reads (read_next w.early w.ward (length w.files)) (week_readers g.S.Source) [] w.files l.index l.files l.weeks.items;
+      reads : Reads (read_next w.early w.ward (length w.files.items)) (week_readers g.S.Source) [] w.files.items l.index l.files.items l.weeks.items;
       weeks : AreWeeksFrom w.early w.ward 0 l.weeks.items;
       number : length l.weeks.items ≡ l.index;
-      kept : KeepWeeks w.files l.files;
+      kept : KeepWeeks w.files.items l.files.items;
     }

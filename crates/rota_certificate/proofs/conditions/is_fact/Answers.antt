@@ -1,73 +1,15 @@
 use Rattle.std.proofs.Common.{◌≡◌, ℕ, ◌<◌, ◌∙◌, ap, sym, subst, arith, length}
-use Rattle.std.specs.Prelude.{IfSome, nat_le}
+use Rattle.std.specs.Prelude.{nat_le}
 use Rattle.rota_core.specs.Certificates.{IsFactFor}
 use Rattle.rota_core.specs.HardRules.{nurses_at}
 use Rattle.rota_core.specs.InstanceTables.{problem_of}
 use Rattle.rota_core.specs.RosterTables.{set_of}
-use Rattle.rota_core.specs.Sizes.{Numbers}
 use Rattle.rota_core.specs.declared.certificate.Fact.TheVariants.{Choice, Nurses}
 use Rattle.rota_certificate.specs.CountedCharges.{numbers_in}
 use Rattle.rota_certificate.specs.Plans.{plan_from}
 use Rattle.rota_certificate.specs.Facts.{has_choice, is_fact, week_passes}
-use Rattle.rota_certificate.proofs.CountedPlans.{choice-at, chosen-in, numbers-of, nurses-in, planned-at, shape-of}
+use Rattle.rota_certificate.proofs.CountedPlans.{choice-at, nurses-in, planned-at}
 use Rattle.rota_certificate.proofs.conditions.is_fact.Goals as goal
-
-pub has_choice-requires-clause-nurse_in : goal.has_choice-requires-clause-nurse_in
-has_choice-requires-clause-nurse_in c =
-    let weeks = c.args.weeks.now in
-    let e : c.args.fact ≡ Choice c.in-Choice.one = cc c.in-Choice.is in
-    let fact = subst (IsFactFor (numbers_in weeks) (length weeks)) e c.requires.fact_in in
-    let inside : c.from-week.result < length weeks = omega (arith, fact.week, c.from-week.ensures) in
-    let numbers = numbers-of weeks c.from-week.result c.index-weeks-week.result inside c.index-weeks-week.is c.requires.plan.period in
-    omega (arith, fact.nurse, ap (λ (all : Numbers). all.nurses) numbers)
-
-pub has_choice-requires-clause-choice_in : goal.has_choice-requires-clause-choice_in
-has_choice-requires-clause-choice_in c =
-    let weeks = c.args.weeks.now in
-    let e : c.args.fact ≡ Choice c.in-Choice.one = cc c.in-Choice.is in
-    let fact = subst (IsFactFor (numbers_in weeks) (length weeks)) e c.requires.fact_in in
-    let inside : c.from-week.result < length weeks = omega (arith, fact.week, c.from-week.ensures) in
-    let numbers = numbers-of weeks c.from-week.result c.index-weeks-week.result inside c.index-weeks-week.is c.requires.plan.period in
-    subst (λ (all : Numbers). IfSome c.in-Choice.one.choice (λ s. s < all.shifts)) (sym numbers)
-    (chosen-in c.in-Choice.one.choice (numbers_in weeks).shifts fact.choice)
-
-pub has_choice-requires-clause-shape : goal.has_choice-requires-clause-shape
-has_choice-requires-clause-shape c =
-    let weeks = c.args.weeks.now in
-    let e : c.args.fact ≡ Choice c.in-Choice.one = cc c.in-Choice.is in
-    let fact = subst (IsFactFor (numbers_in weeks) (length weeks)) e c.requires.fact_in in
-    let inside : c.from-week.result < length weeks = omega (arith, fact.week, c.from-week.ensures) in
-    shape-of weeks c.from-week.result c.index-weeks-week.result inside c.index-weeks-week.is c.args.rosters.now c.index-rosters-week.result
-    c.requires.plan.shapes c.index-rosters-week.is
-
-pub nurses_at-requires-clause-shift_in : goal.nurses_at-requires-clause-shift_in
-nurses_at-requires-clause-shift_in c =
-    let weeks = c.args.weeks.now in
-    let e : c.args.fact ≡ Nurses c.in-Nurses.limit = cc c.in-Nurses.is in
-    let fact = subst (IsFactFor (numbers_in weeks) (length weeks)) e c.requires.fact_in in
-    let inside : c.from-week-in-Nurses.result < length weeks = omega (arith, fact.week, c.from-week-in-Nurses.ensures) in
-    let numbers = numbers-of weeks c.from-week-in-Nurses.result c.index-weeks-week-in-Nurses.result inside c.index-weeks-week-in-Nurses.is
-    c.requires.plan.period in
-    omega (arith, fact.shift, ap (λ (all : Numbers). all.shifts) numbers)
-
-pub nurses_at-requires-clause-skill_in : goal.nurses_at-requires-clause-skill_in
-nurses_at-requires-clause-skill_in c =
-    let weeks = c.args.weeks.now in
-    let e : c.args.fact ≡ Nurses c.in-Nurses.limit = cc c.in-Nurses.is in
-    let fact = subst (IsFactFor (numbers_in weeks) (length weeks)) e c.requires.fact_in in
-    let inside : c.from-week-in-Nurses.result < length weeks = omega (arith, fact.week, c.from-week-in-Nurses.ensures) in
-    let numbers = numbers-of weeks c.from-week-in-Nurses.result c.index-weeks-week-in-Nurses.result inside c.index-weeks-week-in-Nurses.is
-    c.requires.plan.period in
-    omega (arith, fact.skill, ap (λ (all : Numbers). all.skills) numbers)
-
-pub nurses_at-requires-clause-shape : goal.nurses_at-requires-clause-shape
-nurses_at-requires-clause-shape c =
-    let weeks = c.args.weeks.now in
-    let e : c.args.fact ≡ Nurses c.in-Nurses.limit = cc c.in-Nurses.is in
-    let fact = subst (IsFactFor (numbers_in weeks) (length weeks)) e c.requires.fact_in in
-    let inside : c.from-week-in-Nurses.result < length weeks = omega (arith, fact.week, c.from-week-in-Nurses.ensures) in
-    shape-of weeks c.from-week-in-Nurses.result c.index-weeks-week-in-Nurses.result inside c.index-weeks-week-in-Nurses.is c.args.rosters.now
-    c.index-rosters-week-in-Nurses.result c.requires.plan.shapes c.index-rosters-week-in-Nurses.is
 
 pub returns-in-Choice : goal.returns-in-Choice
 returns-in-Choice c =
@@ -82,7 +24,7 @@ returns-in-Choice c =
     let fact = subst (IsFactFor (numbers_in weeks) (length weeks)) e c.requires.fact_in in
     let same : w ≡ one.week = omega (arith, c.from-week.ensures) in
     let inside : w < length weeks = omega (arith, fact.week, same) in
-    let at = planned-at weeks rosters w week roster c.requires.plan.shapes inside c.index-weeks-week.is c.index-rosters-week.is in
+    let at = planned-at weeks rosters w week roster c.requires.plan.as_many inside c.index-weeks-week.is c.index-rosters-week.is in
     c.has_choice.ensures ∙ choice-at plan w one.nurse one.day one.choice (problem_of week) (set_of roster) at ∙
     ap (λ (v : ℕ). week_passes plan v (λ p. has_choice p.week p.roster one.nurse one.day one.choice)) same ∙ ap (is_fact plan) (sym e)
 
@@ -99,7 +41,7 @@ returns-in-Nurses c =
     let fact = subst (IsFactFor (numbers_in weeks) (length weeks)) e c.requires.fact_in in
     let same : w ≡ limit.week = omega (arith, c.from-week-in-Nurses.ensures) in
     let inside : w < length weeks = omega (arith, fact.week, same) in
-    let at = planned-at weeks rosters w week roster c.requires.plan.shapes inside c.index-weeks-week-in-Nurses.is c.index-rosters-week-in-Nurses.is in
+    let at = planned-at weeks rosters w week roster c.requires.plan.as_many inside c.index-weeks-week-in-Nurses.is c.index-rosters-week-in-Nurses.is in
     ap (λ (v : ℕ). nat_le v limit.most) c.nurses_at.ensures ∙
     nurses-in plan w limit.day limit.shift limit.skill limit.most (problem_of week) (set_of roster) at ∙
     ap (λ (v : ℕ). week_passes plan v (λ p. nat_le (nurses_at p.week p.roster limit.day limit.shift limit.skill) limit.most)) same ∙

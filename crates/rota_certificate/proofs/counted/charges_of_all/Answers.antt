@@ -29,7 +29,7 @@ returns c =
       c.loop-nurse.auto.nurse-end,
       c.nurses-nurse-end.ensures.count,
       ap (λ (all : Numbers). all.nurses) numbers,
-      nurses-of weeks rosters c.requires.plan.shapes,
+      nurses-of weeks rosters c.requires.plan.as_many,
     ) in
     record {
       count = c.loop-nurse.invariant.sum ∙ ap (λ (m : ℕ). sum_below m (charges_of_nurse c.args.kind (plan_from weeks rosters))) all;

@@ -4,7 +4,7 @@ use Rattle.rota_core.specs.InstanceTables.{problem_of}
 use Rattle.rota_core.specs.RosterTables.{set_of}
 use Rattle.rota_core.specs.Sizes.{DAYS, Numbers}
 use Rattle.rota_certificate.specs.CountedCharges.{numbers_in}
-use Rattle.rota_certificate.proofs.CountedPlans.{counts-begin, counts-end, counts-next, drop-of, near-as, near-begin, numbers-of, shape-of, shapes-count, some-weeks}
+use Rattle.rota_certificate.proofs.CountedPlans.{counts-begin, counts-end, counts-next, drop-of, near-as, near-begin, numbers-of, some-weeks}
 use Rattle.rota_certificate.proofs.Tables.{near-more}
 use Rattle.rota_certificate.proofs.counted.charges_of_nurse.Goals as goal
 
@@ -15,8 +15,7 @@ loop-number-init c =
     record {
       counts = counts-begin c.args.kind weeks c.args.rosters.now c.args.nurse c.index-weeks-0.result c.past-past.result some c.index-weeks-0.is
           c.past-past.ensures.past c.requires.plan.keep;
-      near = near-begin weeks c.index-weeks-0.result c.args.nurse c.past-past.result some c.index-weeks-0.is c.past-past.ensures.past
-          c.requires.plan.period c.nurses-nurses.ensures.limits;
+      near = near-begin weeks c.index-weeks-0.result c.past-past.result some c.index-weeks-0.is c.requires.plan.period c.past-past.ensures.within;
       small = omega arith;
     }
 
@@ -25,12 +24,6 @@ charges_in_week-week-requires-clause-nurse_in c =
     let numbers = numbers-of c.args.weeks.now c.loop-number.number c.index-weeks-number.result
     (omega (arith, c.loop-number-test.true, c.loop-number.auto.number-end)) c.index-weeks-number.is c.requires.plan.period in
     omega (arith, c.requires.nurse_in, ap (λ (all : Numbers). all.nurses) numbers)
-
-pub charges_in_week-week-requires-clause-shape : goal.charges_in_week-week-requires-clause-shape
-charges_in_week-week-requires-clause-shape c =
-    shape-of c.args.weeks.now c.loop-number.number c.index-weeks-number.result
-    (omega (arith, c.loop-number-test.true, c.loop-number.auto.number-end)) c.index-weeks-number.is c.args.rosters.now c.index-rosters-number.result
-    c.requires.plan.shapes c.index-rosters-number.is
 
 pub charges_in_week-week-requires-clause-near : goal.charges_in_week-week-requires-clause-near
 charges_in_week-week-requires-clause-near c =
@@ -50,7 +43,7 @@ loop-number-preserved c =
     let roster = c.index-rosters-number.result in
     let left = c.charges_in_week-week.result.past in
     let inside : i < length weeks = omega (arith, c.loop-number-test.true, c.loop-number.auto.number-end) in
-    let also : i < length rosters = omega (arith, inside, shapes-count weeks rosters c.requires.plan.shapes) in
+    let also : i < length rosters = omega (arith, inside, c.requires.plan.as_many) in
     let numbers = numbers-of weeks i week inside c.index-weeks-number.is c.requires.plan.period in
     let near = c.charges_in_week-week.ensures.near (DAYS * i)
     (near-as (numbers_in weeks) (problem_of week).numbers (DAYS * i) c.loop-number.past (sym numbers) c.loop-number.invariant.near) in

@@ -1,8 +1,7 @@
-use Rattle.std.proofs.Common.{◌≡◌, ◌<◌, ◌≤◌, ◌++◌, ◌∷◌, [], ap, sym, ◌∙◌, subst, arith, List, length, map, slice_index_or}
+use Rattle.std.proofs.Common.{◌≡◌, ◌<◌, ◌≤◌, ◌++◌, ◌∷◌, [], ap, sym, ◌∙◌, subst, arith, length, map, slice_index_or}
 use Rattle.std.proofs.lemmas.List.{length-map}
 use Rattle.rota_core.specs.TreeNodes.{node_of, nodes_of}
 use Rattle.rota_core.specs.declared.certificate.Condition.{Condition}
-use Rattle.rota_core.specs.declared.certificate.Node.{Node}
 use Rattle.rota_certificate.specs.CasePaths.{IsOnPath}
 use Rattle.rota_certificate.proofs.RepeatedFacts.{found-there, from-there, left-after_leaf, left-after_split, none-after_last, none-at_end, there-or-nowhere}
 use Rattle.rota_certificate.proofs.TreePaths.{kept-at, kept-inside}

@@ -9,7 +9,7 @@ use Rattle.rota_certificate.specs.Evidence.{AreLent}
 use Rattle.rota_certificate.specs.EvidenceFields.{evidence_of}
 use Rattle.rota_certificate.specs.LentLeaves.{LentTables, prices_lent, week_lent}
 use Rattle.rota_certificate.specs.declared.stages.LentWeek.{LentWeek}
-use Rattle.rota_certificate.proofs.LentWeeks.{AreForWeeks, bound-same, leaf-tables, lent-leaf, lent-prices, lent-problems, list-at}
+use Rattle.rota_certificate.proofs.LentWeeks.{bound-same, lent-leaf, lent-prices, lent-problems, list-at, some-weeks}
 use Rattle.rota_certificate.proofs.PeriodProofs.{given-limited}
 use Rattle.rota_certificate.proofs.TreePaths.{case-forward, case-limited}
 use Rattle.rota_certificate.proofs.tree.bound_at.Goals as goal
@@ -28,7 +28,7 @@ invariant_of-lent c =
     lent-leaf (record { weeks = c.deref-2.result.now; case = c.deref-3.result.now }) weeks list
     (subst (λ (lent : List LentWeek). AreLent lent weeks list) (sym c.deref-2.ensures.value) c.in_ok-weeks.ensures)
     c.evidence.invariant.period
-    (subst (AreForWeeks weeks) (sym is_list) (leaf-tables weeks certificate i c.evidence.invariant.is_for i_in))
+    (some-weeks weeks certificate c.evidence.invariant.is_for)
     (subst IsLimitedCase (sym (c.deref-3.ensures.value ∙ c.in_ok-case.ensures))
     (case-limited c.args.path.now evidence.given c.requires.path c.evidence.invariant.given_for.few
     (given-limited _ _ evidence.given c.evidence.invariant.given_for.each)))

@@ -13,7 +13,7 @@ returns-clause-sound c =
     let weeks = c.args.weeks.now in
     let given = c.args.given.now in
     let certificate = c.args.certificate.now in
-    let sound = none-cost_less given certificate c.check_lists.ensures weeks c.requires in
+    let sound = none-cost_less given certificate weeks c.requires in
     IfOk-weaker c.least_bound.result _ (NoneCostLess (map problem_of weeks) given)
     (λ points is. subst (NoneCostLess (map problem_of weeks) given) (sym is) sound) c.least_bound.ensures
 

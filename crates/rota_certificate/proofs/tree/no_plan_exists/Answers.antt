@@ -9,5 +9,5 @@ returns-clause-answer c = ap (nat_lt 0) c.in_ok-least.ensures
 pub returns-clause-sound : goal.returns-clause-sound
 returns-clause-sound c =
     λ above.
-    have-no-plan c.args.given.now c.args.certificate.now c.check_lists.ensures c.args.weeks.now c.requires
+    have-no-plan c.args.given.now c.args.certificate.now c.args.weeks.now c.requires
     (omega (arith, ltb-true 0 c.in_ok-least.least above, c.in_ok-least.ensures))

@@ -16,8 +16,9 @@ invariant_of-result c =
       week = 0;
       unit = c.args.unit;
       nurse = c.args.nurse;
+      contract = c.contract-contract.result;
       tariff = c.args.tariff;
       charged = c.charge_totals-charged.result;
     } in
     first-is stage first (lent-at c.args.leaf.now weeks 0 c.index-leaf-0.result same c.index-leaf-0.is)
-    (subst IsLeaf c.leaf.view_is c.leaf.invariant) c.requires c.charge_totals-charged.ensures
+    (subst IsLeaf c.leaf.view_is c.leaf.invariant) c.requires c.contract-contract.ensures c.charge_totals-charged.ensures

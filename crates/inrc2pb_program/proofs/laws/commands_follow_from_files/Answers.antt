@@ -1,0 +1,12 @@
+use Rattle.rota_pb.specs.RunPorts.{reader_of, writer_of}
+use Rattle.byte_ports.specs.Openers.{opener_at}
+use Rattle.inrc2pb_frame.specs.Exits.{printer_state}
+use Rattle.inrc2pb_frame.specs.Placing.{file_of}
+use Rattle.inrc2pb_program.proofs.CommandEndings.{follows}
+use Rattle.inrc2pb_program.proofs.laws.commands_follow_from_files.Goals as goal
+
+pub returns : goal.returns
+returns g c = λ words files_old files_new input_old input_new file_old file_new output_old output_new help_old help_new errors_old errors_new status.
+    follows (opener_at g.O.Opens g.O.File.Source files_old files_new) (file_of g.F.Target g.F.HasPath.path file_old file_new)
+    (reader_of g.A.Source input_old input_new) (writer_of g.W.Target output_old output_new) (printer_state g.H.Printer help_old help_new)
+    (printer_state g.E.Printer errors_old errors_new) status words

@@ -1,0 +1,238 @@
+"""The forms of a local page, and the verbs that their fields are."""
+
+from typing import List, Optional, Sequence, Tuple
+
+from ..plans.planning import CHANGE_SECONDS, WEEK_SECONDS
+from ..plans.table import VERBS
+from ..plans.verb import Event, Form
+from ..plans.ward import WardPlan
+from ..sheets.plan_sheets import AWAY
+from ..shown.markup import Markup, element, joined
+from ..week.faults import Misuse
+from ..week.records import WEEK_DAYS
+from ..week.words import OFF, quoted, readable
+from .jobs import Fields
+
+_MOST_SECONDS = 3600.0
+# The field of a form that writes, after the user was asked; the one that says for which plan it was
+# shown, and that of an answer, for which spreadsheet.
+SURE = "sure"
+STAMP = "stamp"
+SEEN = "seen"
+FORMS = tuple(verb.form for verb in VERBS)
+_BY_VERB = {form.verb: form for form in FORMS}
+_CHECKS = ("free",)
+# The fields of a form that may stay empty, and the text of the choice that leaves them so; of
+# others a user has to choose.
+_EMPTY = {
+    "from": "all days",
+    "other": "all who could",
+    "other day": "the same day",
+    "last": "this day only",
+}
+_LABELS = {"first": "day", "last": "last day", "other": "with", "free": "all shifts may change"}
+
+
+def writes(fields: Fields) -> str:
+    """What the verb of a form writes; nothing if it only reads."""
+    verb = fields.get("verb", "")
+    only_reads = verb not in _BY_VERB or (verb == "swap" and "write it" not in fields)
+    return "" if only_reads else _BY_VERB[verb].writes
+
+
+def not_written(fields: Fields) -> List[str]:
+    """A line that names what was not written of a form that was refused; none if its verb only
+    reads."""
+    nurse, other = (readable(fields.get(name, "")) for name in ("nurse", "other"))
+    return (
+        [_BY_VERB[fields["verb"]].refused.format(nurse=nurse, other=other)]
+        if writes(fields)
+        else []
+    )
+
+
+def event_of(fields: Fields, seconds: Optional[float] = None) -> Event:
+    """What a form asks for; a search has so many seconds, if the form does not say how many. Raises
+    Misuse if no form of the page is so."""
+    verb = fields.get("verb", "")
+    if verb not in _BY_VERB:
+        raise Misuse(
+            f"'{verb}' is no button of this page: it has {quoted(form.button for form in FORMS)}"
+        )
+    words = [
+        fields[name]
+        for name in ("nurse", "first", "other", "other day", "last", "from", "shift", "note")
+        if fields.get(name)
+    ]
+    if verb == "over":
+        words = fields.get("corrections", "").split()
+    if verb == "away":
+        verb = _reason(fields)
+    given = _seconds(fields)
+    is_written = verb == "set" or "write it" in fields
+    return Event(
+        verb,
+        tuple(words),
+        seconds=seconds if given is None else given,
+        free="free" in fields,
+        do=is_written,
+        on_page=True,
+    )
+
+
+def _seconds(fields: Fields) -> Optional[float]:
+    text = fields.get("seconds", "")
+    if not text:
+        return None
+    least = 0 if fields["verb"] == "set" else 1
+    if not text.isdecimal() or len(text) > 4 or not least <= int(text) <= _MOST_SECONDS:
+        raise Misuse(f"'{text}' is no number of seconds from 1 to {_MOST_SECONDS:.0f}")
+    return float(text)
+
+
+def _reason(fields: Fields) -> str:
+    reason = fields.get("reason", "")
+    if reason not in AWAY:
+        raise Misuse(f"'{reason}' is no reason to be away: choose one of {quoted(AWAY)}")
+    return reason
+
+
+def form_markup(
+    form: Form,
+    plan: Optional[WardPlan],
+    address: str,
+    stamp: str,
+    kept: Fields = {},
+    seconds: Optional[float] = None,
+) -> Markup:
+    """A form of the page, with the stamp of the plan, these values in its fields, and this time of
+    a search. Nothing is chosen beforehand. One with fields is folded, unless it was refused; one
+    without needs no plan."""
+    hidden = [element("input", type="hidden", name=STAMP, value=stamp)] if form.writes else []
+    usual = seconds or (
+        WEEK_SECONDS * len(plan.weeks) if plan and form.verb == "plan" else CHANGE_SECONDS
+    )
+    fields = [_field(name, plan, kept.get(name, ""), usual) for name in form.fields if plan]
+    button = element("button", form.button, name="verb", value=form.verb)
+    text = (
+        f"{form.text}; writes {form.writes}" if form.writes and form.verb != "swap" else form.text
+    )
+    inside = element(
+        "form", *hidden, *fields, button, " ", element("small", text), method="post", action=address
+    )
+    is_open = "" if kept or (form.verb == "plan" and plan and not plan.is_planned) else None
+    return (
+        element("details", element("summary", form.heading), inside, open=is_open)
+        if form.heading
+        else inside
+    )
+
+
+def sure_markup(
+    fields: Fields, plan: Optional[WardPlan], address: str, seen: str, lines: Sequence[str] = ()
+) -> Markup:
+    """The question before a verb writes, with these lines, for what the folder has. Without a plan,
+    which the spreadsheet may not give now, it is undo."""
+    form = _BY_VERB[fields["verb"]]
+    hidden = [
+        element("input", type="hidden", name=name, value=value)
+        for name, value in {**fields, SURE: "yes", SEEN: seen}.items()
+    ]
+    yes = element("button", "Yes, write it", autofocus="")
+    parts = [element("h2", f"{_question(form, fields, plan)}?")]
+    if lines:
+        parts.append(element("pre", "\n".join(lines)))
+    way_back = "" if form.verb == "undo" else " Undo takes it back."
+    parts.append(element("p", f"This writes {form.writes}.{way_back}"))
+    answers = element(
+        "form",
+        *hidden,
+        yes,
+        " ",
+        element("a", "No", href=f"{address}?no"),
+        method="post",
+        action=address,
+    )
+    return element("section", *parts, answers)
+
+
+def _question(form: Form, fields: Fields, plan: Optional[WardPlan]) -> str:
+    """What the page asks: the heading of the form, and its fields."""
+    if plan and form.verb == "swap":
+        first = _shown(plan, fields["first"])
+        other = _shown(plan, fields.get("other day", ""))
+        days = f"{first} and {other}" if other not in ("", first) else first
+        return readable(f"Write this swap: {fields['nurse']} and {fields.get('other', '')}, {days}")
+    named = (
+        [plan.days.span([plan.first, plan.first + WEEK_DAYS - 1])]
+        if plan and form.verb == "over"
+        else []
+    )
+    for name, value in fields.items():
+        if value and name not in ("verb", STAMP):
+            label = _LABELS.get(name, name)
+            text = f"{label} {_shown(plan, value) if plan else value}"
+            is_alone = (name, value) == ("seconds", "0")
+            text = "and no other shift moves" if is_alone else label if name in _CHECKS else text
+            named.append(readable(text))
+    heading = form.heading or form.button
+    return f"{heading}: {', '.join(named)}" if named else heading
+
+
+def _shown(plan: WardPlan, value: str) -> str:
+    """The value of a field; a day as in sentences."""
+    heads = {plan.days.head(day): plan.days.text(day) for day in range(plan.days.total)}
+    return heads.get(value, value)
+
+
+def button_markup(fields: Fields, text: str, address: str) -> Markup:
+    """A button with this text that sends these fields."""
+    hidden = [
+        element("input", type="hidden", name=name, value=value) for name, value in fields.items()
+    ]
+    return element("form", *hidden, element("button", text), method="post", action=address)
+
+
+def _field(name: str, plan: WardPlan, kept: str, seconds: float) -> Markup:
+    label = f"{_LABELS.get(name, name)} "
+    if name in _CHECKS:
+        return joined(
+            element("label", element("input", type="checkbox", name=name, value="yes"), label), " "
+        )
+    if name in ("seconds", "corrections", "note"):
+        kind = (
+            {"type": "number", "min": "1", "max": f"{_MOST_SECONDS:.0f}"}
+            if name == "seconds"
+            else {"type": "text"}
+        )
+        kind["placeholder"] = f"{seconds:g}" if name == "seconds" else ""
+        return joined(
+            element("label", label, element("input", name=name, value=kept or None, **kind)), " "
+        )
+    choices: Sequence[Tuple[str, str]]
+    if name == "shift":
+        choices = [
+            (OFF, "off, promised"),
+            *((shift, readable(shift)) for shift in plan.scenario.shift_types),
+        ]
+    elif name == "reason":
+        choices = [(word, word) for word in ("ill", *(word for word in AWAY if word != "ill"))]
+    elif name in ("nurse", "other"):
+        choices = [(nurse, readable(nurse)) for nurse in plan.scenario.nurses]
+    else:
+        choices = [
+            (plan.days.head(day), plan.days.text(day)) for day in range(plan.first, plan.days.total)
+        ]
+    choices = [("", _EMPTY.get(name, "choose")), *choices]
+    options = [
+        element("option", text, value=value, selected="" if value and value == kept else None)
+        for value, text in choices
+    ]
+    return joined(
+        element(
+            "label",
+            label,
+            element("select", *options, name=name, required=None if name in _EMPTY else ""),
+        ),
+        " ",
+    )

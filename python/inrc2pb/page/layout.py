@@ -1,0 +1,309 @@
+"""The local page of a ward: its forms, what the last verb has said, the roster, and the charges and
+swaps of one cell."""
+
+from dataclasses import replace
+from pathlib import Path
+from typing import Collection, List, Mapping, NamedTuple, Optional, Sequence, Tuple
+from urllib.parse import quote
+
+from ..plans.absence import Away
+from ..plans.pages import CALENDARS, roster_content
+from ..plans.planned import Planned
+from ..plans.swaps import Swap
+from ..plans.verbs.over import WeekOver
+from ..plans.verbs.swap import Swapped
+from ..plans.ward import WardPlan
+from ..shown.calendars import file_names
+from ..shown.markup import Markup, element, joined
+from ..shown.page import page_style
+from ..shown.roster_table import RosterTable
+from ..week.records import WEEK_DAYS, NurseDay
+from ..week.words import readable
+from .cell import Actions, cell_address
+from .forms import FORMS, STAMP, button_markup, form_markup, sure_markup
+from .jobs import Fields, Said
+
+REFRESH_SECONDS = 2
+_FORMS = "forms"
+_GUIDE = (
+    "The spreadsheet is {}: change it, save it, and plan again. "
+    "A button that writes asks first, and Undo takes back what the last one wrote. "
+)
+STYLE = """
+form { margin: .5em 0 }
+label { display: inline-block; margin: .1em .3em }
+button, input, select { font: inherit; padding: .25em .5em }
+button { min-width: 11em }
+button:focus-visible, input:focus-visible, select:focus-visible, a:focus-visible { outline: 3px solid #05c; outline-offset: 1px }
+pre { background: #eee; padding: .6em; white-space: pre-wrap }
+pre.fault { background: #fdd }
+.links a { margin-right: 1em }
+td a { display: block; color: inherit; text-decoration: none; min-height: 1.4em }
+td a:hover { outline: 3px solid #05c }
+tbody th a { color: inherit }
+summary { font-weight: 600; padding: .3em 0 }
+.actions { display: grid; grid-template-columns: repeat(auto-fit, minmax(17em, 1fr)); gap: 0 1.5em }
+.actions h3 { font-size: 1em; margin: .6em 0 .2em }
+.actions form { margin: .15em 0 }
+.actions button { width: 100%; text-align: left }
+.actions .words button { width: auto; min-width: 0 }
+@media screen and (max-width: 40em) { button { width: 100% } label { display: block } select { max-width: 100% } }
+"""
+
+
+class Shown(NamedTuple):
+    """What a page shows beside the plan: what was said, the cell that was clicked, the form that
+    asks whether to write, the fields of the last form, the path of the spreadsheet, the pages of
+    weeks that are over with their texts, the name of the ward, the seconds of a search, if they are
+    not the usual ones, what the folder had when the page was made, the verb that has made the plan,
+    the lines that are shown with a question, and those that say why a form of this page was
+    refused."""
+
+    said: Said
+    place: Optional[NurseDay] = None
+    asks: Fields = {}
+    kept: Fields = {}
+    spreadsheet: str = ""
+    worked: Mapping[str, str] = {}
+    name: str = "Ward"
+    seconds: Optional[float] = None
+    seen: str = ""
+    made: str = ""
+    lines: Sequence[str] = ()
+    refused: Sequence[str] = ()
+    # The swap that was written for the cell that was clicked.
+    agreed: Optional[Swap] = None
+    roster: Optional["Roster"] = None
+
+    @property
+    def stamp(self) -> str:
+        """The stamp of the plan."""
+        return self.seen.split(" ", 1)[0]
+
+
+class Roster(NamedTuple):
+    """The roster of a plan as the page shows it: its points, if it has some, and its notes, tables
+    and legend. It is the same in each look at this plan."""
+
+    points: str
+    tables: Markup
+
+
+def roster_of(top: Path, plan: WardPlan, address: str) -> Roster:
+    """The roster of a folder's plan with links: a click on a cell opens it, and by keyboard a
+    nurse's name opens her first day."""
+
+    def link(week: int, nurse: str, day: int) -> str:
+        return cell_address(address, NurseDay(nurse, plan.first + WEEK_DAYS * week + day))
+
+    content = replace(roster_content(top, plan), link=link)
+    table = RosterTable(content)
+    notes = [element("p", note) for note in content.notes]
+    legend = element("ul", *(element("li", line) for line in table.legend()), class_="legend")
+    hint = element(
+        "p",
+        (
+            "Click a nurse's day, or by keyboard her name: what it costs, and what can be done"
+            " with it."
+        ),
+    )
+    points = content.view.penalty
+    return Roster(
+        "" if points is None else f"{points} points. ",
+        joined(*notes, hint, *table.tables(), legend),
+    )
+
+
+def page_markup(plan: Optional[WardPlan], shown: Shown, address: str) -> str:
+    """The page: what was said or is asked, what can be done with the cell that was clicked, the
+    roster, and below it the forms. While a verb runs it loads itself again and again, and has no
+    plan, which would take the time of the search.
+    """
+    name = shown.name
+    said = shown.said
+    # A cell that was clicked, a question, and a form that was refused take the place of an older
+    # verb's answer.
+    is_old = bool(shown.asks) or (
+        not said.runs
+        and (bool(plan and shown.refused) or (shown.place is not None and not said.fault))
+    )
+    parts: List[Markup] = [
+        element("h1", name),
+        *_lines(shown.refused, True),
+        *([] if is_old else _said(said, shown, address)),
+    ]
+    if shown.asks:
+        parts.append(sure_markup(shown.asks, plan, address, shown.seen, shown.lines))
+    elif plan and not said.runs:
+        if shown.place and plan.is_planned:
+            parts.append(Actions(plan, shown.place, address, shown.stamp, shown.agreed).markup())
+    elif plan is None and not said.runs:
+        parts += _without_plan(shown, address)
+    if plan and shown.roster:
+        parts.append(_roster(plan, shown.roster, shown, address))
+    if plan and not shown.asks and not said.runs:
+        parts.append(_forms(plan, shown, address))
+    chosen = (
+        f'\ntd a[href="{cell_address(address, shown.place)}"] {{ outline: 3px solid #05c }}'
+        if shown.place
+        else ""
+    )
+    heads = [element("style", Markup(page_style() + STYLE + chosen))]
+    if said.runs:
+        heads.append(element("meta", http_equiv="refresh", content=str(REFRESH_SECONDS)))
+    return page_of(name, heads, parts)
+
+
+def _forms(plan: WardPlan, shown: Shown, address: str) -> Markup:
+    """The forms of the verbs, those with fields folded, and links to the pages of weeks that are
+    over."""
+    forms = [form for form in FORMS if plan.is_planned or not form.needs_plan]
+    # Buttons that need no fields come first.
+    forms.sort(key=lambda form: bool(form.fields))
+    kept = shown.kept
+    parts = [
+        form_markup(
+            form,
+            plan,
+            address,
+            stamp=shown.stamp,
+            kept=kept if form.verb == kept.get("verb") else {},
+            seconds=shown.seconds,
+        )
+        for form in forms
+    ]
+    guide = element("p", _GUIDE.format(shown.spreadsheet))
+    return element(
+        "section",
+        guide,
+        *parts,
+        element("p", *_linked(_worked(shown), address), class_="links"),
+        id=_FORMS,
+    )
+
+
+def _without_plan(shown: Shown, address: str) -> List[Markup]:
+    """What there is if the spreadsheet has a fault, or not yet the days of the next period."""
+    again = element("a", "load this page again", href=address)
+    begin = (
+        "Correct that in"
+        if shown.said.fault
+        else "Write the days of the next period into the sheet plan of"
+    )
+    return [
+        element("p", f"{begin} {shown.spreadsheet}, save it, and ", again, "."),
+        *(
+            form_markup(form, None, address, shown.stamp)
+            for form in FORMS
+            if not (form.needs_plan or form.fields)
+        ),
+        element("p", *_linked(_worked(shown), address), class_="links"),
+    ]
+
+
+def page_of(name: str, head: Sequence[Markup], parts: Sequence[Markup]) -> str:
+    """A page with this title."""
+    width = element("meta", name="viewport", content="width=device-width")
+    heads = [element("meta", charset="utf-8"), width, element("title", name), *head]
+    body = element("body", element("main", *(joined(part, Markup("\n")) for part in parts)))
+    return f"<!DOCTYPE html>\n{element('html', element('head', *heads), body, lang='en')}\n"
+
+
+def _lines(lines: Sequence[str], is_fault: bool) -> List[Markup]:
+    """Lines, if there are some, which a screen reader reads at once; of a long text the paragraphs
+    after the second one are folded."""
+    kind = "fault" if is_fault else None
+    paragraphs = "\n".join(lines).split("\n\n")
+    shown, folded = ("\n\n".join(part) for part in (paragraphs[:2], paragraphs[2:]))
+    if not lines:
+        return []
+    parts = [element("pre", shown, role="alert" if is_fault else "status", class_=kind)]
+    if folded:
+        parts.append(element("details", element("summary", "More"), element("pre", folded)))
+    return parts
+
+
+def _said(said: Said, shown: Shown, address: str) -> List[Markup]:
+    """The lines of the last verb, and a button that stops it, that takes back what it wrote, or
+    that writes that of which it tells."""
+    stop = element(
+        "form",
+        element("button", "Stop, and keep the best plan", name="verb", value="stop"),
+        method="post",
+        action=address,
+    )
+    outcome = said.outcome
+    is_look = isinstance(outcome, Swapped) and not outcome.is_written and not outcome.faults
+    words = {name: value for name, value in shown.kept.items() if value}
+    write = (
+        [button_markup({**words, "write it": "yes"}, "Write this swap", address)] if is_look else []
+    )
+    if isinstance(outcome, (Away, Planned, WeekOver)) and not outcome.is_written:
+        asked = {name: value for name, value in said.fields.items() if value}
+        write = [button_markup({**asked, "write it": "yes"}, "Write it all the same", address)]
+    is_written = outcome is not None and outcome.is_written and not said.is_undo
+    undo = (
+        [button_markup({"verb": "undo", STAMP: shown.stamp}, "Take it back", address)]
+        if is_written and not shown.asks
+        else []
+    )
+    head = f"Asked on this page: {readable(said.asked)}"
+    return [
+        *([element("p", head)] if said.lines and said.asked else []),
+        *_lines(said.lines, said.fault is not None),
+        *([stop] if said.runs else []),
+        *write,
+        *undo,
+    ]
+
+
+def _worked(shown: Shown) -> List[Tuple[str, str]]:
+    """The links to the pages of weeks that are over."""
+    return [(text, name) for name, text in shown.worked.items()]
+
+
+def _roster(plan: WardPlan, roster: Roster, shown: Shown, address: str) -> Markup:
+    """The roster, and links to its other pages."""
+    calendars = [("Calendars", CALENDARS)] if plan.days.monday else []
+    to_forms = [] if shown.asks else [element("a", "All buttons", href=f"#{_FORMS}"), " "]
+    links = [
+        *to_forms,
+        *_linked(
+            [("Costs, totals and coverage", "roster"), ("Page for the wall", "wall"), *calendars],
+            address,
+        ),
+    ]
+    made = f"Last written: {readable(shown.made)}. " if shown.made else ""
+    return element(
+        "section", element("p", roster.points, made, *links, class_="links"), roster.tables
+    )
+
+
+def _linked(links: Sequence[Tuple[str, str]], address: str) -> List[Markup]:
+    """Links to pages by their texts."""
+    return [joined(element("a", text, href=f"{address}{page}"), " ") for text, page in links]
+
+
+def calendars_markup(plan: WardPlan, address: str, there: Collection[str]) -> str:
+    """The page with a link to the calendar of each nurse, as far as they are there."""
+    links = [
+        (readable(nurse), name)
+        for nurse, name in file_names(plan.scenario.nurses).items()
+        if name in there
+    ]
+    items = [
+        element("li", element("a", nurse, href=f"{address}{CALENDARS}/{quote(name)}"))
+        for nurse, name in links
+    ]
+    text = (
+        "Each opens in a calendar program."
+        if items
+        else "There are none yet: the button Publish writes them, if the plan has dates."
+    )
+    back = element("p", element("a", "Back", href=address))
+    style = element("style", Markup(page_style() + STYLE))
+    return page_of(
+        "Calendars",
+        [style],
+        [element("h1", "Calendars"), element("p", text), element("ul", *items), back],
+    )

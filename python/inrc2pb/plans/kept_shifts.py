@@ -1,0 +1,63 @@
+"""What folders of plans say of shifts: the sums of a period, and the days that hung on the wall."""
+
+from dataclasses import replace
+from pathlib import Path
+from typing import Dict, Iterable, Sequence, Set
+
+from ..judging.absences import wishes_of
+from ..shown.totals import Sums, sums_of
+from ..week.dates import PlanDays
+from ..week.faults import FileFault
+from ..week.files import read_scenario, read_solution, read_week
+from ..week.records import WEEK_DAYS, Cell
+from .periods import Period, state_of
+from .plan_files import known_record, roster_name
+from .ward import WardPlan
+
+
+def sums_of_period(period: Period, plan: WardPlan) -> Dict[str, Sums]:
+    """What each nurse had in a period; the times of shift types, and which are nights, are those of
+    another plan."""
+    try:
+        ward = read_scenario(period.folder / "ward.txt")
+        weeks = [
+            read_week(period.folder / f"week-{number}.txt", ward)
+            for number in range(period.days.weeks)
+        ]
+        worked = state_of(period).cells
+    except (FileFault, OSError):
+        return {}
+    wishes = [
+        replace(wish, day=WEEK_DAYS * number + wish.day)
+        for number, week in enumerate(weeks)
+        for wish in wishes_of(week)
+    ]
+    return sums_of(ward.nurses, worked, wishes, plan.days_away.nights, plan.ward.times)
+
+
+def published_days(folders: Iterable[Path], days: PlanDays) -> Dict[str, Set[int]]:
+    """The days of each nurse's shifts in plans of these days that hung on the wall, but for damaged
+    files."""
+    days_of: Dict[str, Set[int]] = {}
+    records = ((folder, known_record(folder)) for folder in folders)
+    published = [
+        folder
+        for folder, of_plan in records
+        if of_plan and of_plan.published and of_plan.days == days
+    ]
+    for number, path in (
+        (number, folder / roster_name(number))
+        for folder in published
+        for number in range(days.weeks)
+    ):
+        for cell in known_cells(path):
+            days_of.setdefault(cell.nurse, set()).add(WEEK_DAYS * number + cell.day)
+    return days_of
+
+
+def known_cells(path: Path) -> Sequence[Cell]:
+    """The shifts of a roster, but for a damaged file."""
+    try:
+        return read_solution(path).cells
+    except (FileFault, OSError):
+        return ()

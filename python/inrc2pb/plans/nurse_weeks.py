@@ -1,0 +1,152 @@
+"""The weeks of single nurses: what a nurse is charged for her shifts, and why she cannot have
+them."""
+
+from dataclasses import replace
+from typing import Dict, Iterator, List, Mapping, NamedTuple, Optional, Tuple
+
+from ..judging import days_away
+from ..judging.days_away import DaysAway
+from ..judging.limits import exceeded, excess
+from ..judging.next_history import next_nurse_history
+from ..judging.obstacles import Obstacle, obstacles
+from ..judging.rules import Charge, costs
+from ..week.records import Cell, History, NurseDay, Week, WeekData, in_week
+from .facts import Beside, beside_of
+from .state import SetDay
+from .ward import WardPlan
+
+
+# A nurse's shifts, by the days of the plan.
+NurseCells = Mapping[int, Cell]
+
+
+class Above(NamedTuple):
+    """What a nurse has in a week above limits that hold, and her shifts in it, with the days of the
+    week."""
+
+    week: int
+    charges: Tuple[Charge, ...]
+    cells: Tuple[Cell, ...]
+
+
+class Fault(NamedTuple):
+    """Why a nurse cannot have some shifts: on a day, a word for why she is away, a shift type or a
+    skill, and the shift type before it; or what she has above limits, or what is wrong beside her
+    days away; or the place that she leaves, and its minimum number; or what was promised to her."""
+
+    kind: Obstacle
+    nurse: str
+    day: int = 0
+    what: str = ""
+    before: str = ""
+    above: Tuple[Above, ...] = ()
+    beside: Optional[Beside] = None
+    number: int = 0
+    promise: Optional[SetDay] = None
+
+
+class NurseWeeks:
+    """The weeks of a plan that are not over as each nurse has them, as if the ward had her alone
+    and needed nobody."""
+
+    def __init__(self, plan: WardPlan) -> None:
+        self._plan = plan
+        self._held = by_nurse(plan, plan.held)
+        self._data: Dict[Tuple[str, int], WeekData] = {
+            (nurse, number): _of_nurse(plan.data[number], nurse)
+            for nurse in plan.scenario.nurses
+            for number in plan.weeks
+        }
+
+    def _weeks(self, nurse: str, cells: NurseCells) -> Iterator[Tuple[Week, Tuple[Cell, ...]]]:
+        """Each week, with her shifts."""
+        plan = self._plan
+        scenario = replace(plan.scenario, nurses={nurse: plan.scenario.nurses[nurse]})
+        past = plan.past.nurses[nurse]
+        for number in plan.weeks:
+            of_week = in_week(cells.values(), number)
+            yield Week(
+                scenario, History(number, scenario.name, {nurse: past}), self._data[nurse, number]
+            ), of_week
+            past = next_nurse_history(past, {cell.day: cell.shift for cell in of_week})
+
+    def cost(self, nurse: str, cells: NurseCells) -> int:
+        """What the nurse is charged for these shifts."""
+        return sum(
+            sum(costs(week, of_week).values()) for week, of_week in self._weeks(nurse, cells)
+        )
+
+    def faults(self, nurse: str, cells: NurseCells) -> List[Fault]:
+        """The hard rules, absences and held shifts that these shifts break, each by itself, in the
+        order of days."""
+        last = self._plan.past.nurses[nurse].last_shift
+        shift_on = {
+            **({self._plan.first - 1: last} if last else {}),
+            **{day: cell.shift for day, cell in cells.items()},
+        }
+        faults = [
+            Fault(Obstacle.HELD, nurse, day)
+            for day, cell in self._held[nurse].items()
+            if cells.get(day) != cell
+        ]
+        for cell in cells.values():
+            faults += self._cell_faults(cell, shift_on.get(cell.day - 1))
+        return sorted(faults, key=lambda fault: fault.day)
+
+    def _cell_faults(self, cell: Cell, before: Optional[str]) -> Iterator[Fault]:
+        """Why the nurse cannot have this shift after that of the day before."""
+        place = NurseDay(cell.nurse, cell.day)
+        words = {Obstacle.AWAY: self._plan.away.get(place, ""), Obstacle.SKILL: cell.skill}
+        for kind in obstacles(self._plan.scenario, self._plan.absences, cell, before):
+            yield Fault(kind, *place, words.get(kind, cell.shift), before or "")
+
+    def above(self, nurse: str, cells: NurseCells) -> List[Above]:
+        """What these shifts of the nurse have above limits that hold."""
+        weeks = (
+            (week, exceeded(week, week.data.limits, of_week), of_week)
+            for week, of_week in self._weeks(nurse, cells)
+        )
+        return [
+            Above(week.history.week, tuple(charges), of_week)
+            for week, charges, of_week in weeks
+            if charges
+        ]
+
+    def excess(self, nurse: str, cells: NurseCells) -> int:
+        """How much that is in all."""
+        return sum(excess(week.charges) for week in self.above(nurse, cells))
+
+    def beside(self, nurse: str, cells: NurseCells) -> List[Beside]:
+        """What is wrong beside the nurse's days of training and leave with these shifts."""
+        return beside_of(self._plan, *self._around(nurse, cells))
+
+    def excess_beside(self, nurse: str, cells: NurseCells) -> int:
+        """By how many days rows with training are too long, with the number of nights before
+        training or leave."""
+        return days_away.excess(self._plan.scenario, self._plan.past, *self._around(nurse, cells))
+
+    def _around(self, nurse: str, cells: NurseCells) -> Tuple[DaysAway, Dict[NurseDay, str]]:
+        """The nurse's days away, and her shift types on the days from the first one that is not
+        over."""
+        return self._plan.days_away.of(nurse), {
+            NurseDay(nurse, day - self._plan.first): cell.shift for day, cell in cells.items()
+        }
+
+
+def _of_nurse(data: WeekData, nurse: str) -> WeekData:
+    """What a week's file has about one nurse."""
+    requests = tuple(request for request in data.requests if request.nurse == nurse)
+    return replace(
+        data,
+        requirements={},
+        requests=requests,
+        limits=frozenset(limit for limit in data.limits if limit.nurse == nurse),
+    )
+
+
+def by_nurse(plan: WardPlan, works: Mapping[NurseDay, Cell]) -> Dict[str, Dict[int, Cell]]:
+    """The shifts of each nurse, by day."""
+    rows: Dict[str, Dict[int, Cell]] = {nurse: {} for nurse in plan.scenario.nurses}
+    for (nurse, day), cell in works.items():
+        rows.setdefault(nurse, {})[day] = cell
+    return rows

@@ -1,0 +1,42 @@
+"""What is odd in the spreadsheet and in the folder, as `check` and `plan` say it."""
+
+from typing import Iterator, List, Sequence
+
+from ..sheets.week_rows import WeekRow
+from ..week.words import quoted, readable
+from .sentences import anew_lines
+from .reading import Strangers
+from .ward import WardPlan
+
+
+def warning_lines(
+    plan: WardPlan,
+    other_pages: Sequence[str] = (),
+    anew: Sequence[WeekRow] = (),
+    strangers: Strangers = Strangers(),
+) -> List[str]:
+    """What is odd in the spreadsheet and in the folder: pages that show another plan, rows of needs
+    that are as they were last period, and nurses who may have another name now."""
+    told = [
+        f"{name} shows another plan than the one that holds, as if a run was killed: the verbs plan"
+        " and page write it anew"
+        for name in other_pages
+    ]
+    warnings = [
+        *told,
+        *plan.ward.warnings,
+        *anew_lines(anew, plan.days),
+        *_stranger_lines(strangers),
+    ]
+    return [readable(f"warning: {line}") for line in warnings]
+
+
+def _stranger_lines(strangers: Strangers) -> Iterator[str]:
+    """That nurses have come and others have gone, so one of them may only have another name."""
+    come, gone = strangers
+    if come and gone:
+        yield (
+            f"sheet nurses: the last plan does not have {quoted(come)}, and here is no row for"
+            f" {quoted(gone)}: if one of them has another name now, write the old one into the"
+            " column was, so that her past is known"
+        )

@@ -1,0 +1,177 @@
+"""The periods of a ward's folder. A ward is a line of days, from its first Monday on, and a period
+only says from when on contracts count anew. Each plan's folder is of one period, and the last one
+of a period holds: so a period that is over can be corrected while another one runs, and `undo`
+takes the last folder away, of whichever period it is.
+
+A period begins as the one before it ends. That is computed each time, and never read where the
+period before it is known, so no correction of the past is lost.
+"""
+
+from dataclasses import dataclass, replace
+from pathlib import Path
+from typing import Dict, Iterable, Iterator, List, NamedTuple, Optional, Sequence, Tuple
+
+from ..judging.leave import Counted
+from ..judging.next_history import next_history
+from ..sheets.ward import Ward
+from ..sheets.written_days import BACK, DayWord
+from ..week.dates import PlanDays
+from ..week.facts import Choice, Claim, read_facts, read_reasons
+from ..week.files import read_history, read_scenario, read_solution, read_week
+from ..week.records import WEEK_DAYS, Cell, History, NurseDay, Scenario, in_plan
+from .plan_files import known_record, read_record, read_state, roster_name
+from .state import Record, State
+from .ward import WardPlan, plan_of
+
+
+class Kept(NamedTuple):
+    """A plan's folder, its record, and the number of its period."""
+
+    folder: Path
+    record: Record
+    period: int
+
+
+class Period(NamedTuple):
+    """A period: its number, the folder of its plan that holds, its days, its first week that is not
+    over, and the folder by which an older version has ended it."""
+
+    number: int
+    folder: Path
+    days: PlanDays
+    open_week: int
+    ended: Optional[Path] = None
+
+    @property
+    def is_over(self) -> bool:
+        """Whether all its weeks are over."""
+        return self.ended is not None or self.open_week >= self.days.weeks
+
+
+def kept_plans(folders: Iterable[Path]) -> Iterator[Kept]:
+    """The folders that are not damaged, with their periods. The record of an older version has no
+    number, and one without weeks ends a period."""
+    ended = 0
+    for folder, record in ((folder, known_record(folder)) for folder in folders):
+        if record:
+            yield Kept(folder, record, ended if record.period is None else record.period)
+            ended += record.period is None and not record.days.weeks
+
+
+def periods_of(folders: Sequence[Path]) -> List[Period]:
+    """The periods of these folders, in their order. Raises FileFault if a folder is damaged that
+    may have the plan that holds."""
+    periods: Dict[int, Period] = {}
+    for folder, record, number in kept_plans(folders):
+        if record.days.weeks:
+            periods[number] = Period(number, folder, record.days, record.open_week)
+        elif number in periods:
+            periods[number] = periods[number]._replace(ended=folder)
+    last = periods[max(periods)] if periods else None
+    for folder in folders[folders.index(last.ended or last.folder) if last else 0 :]:
+        read_record(folder)
+    return [periods[number] for number in sorted(periods)]
+
+
+def state_of(period: Period) -> State:
+    """What verbs have made of a period. One that an older version has ended was worked as the
+    folder says that ended it, or, if that has no rosters, as it was planned."""
+    state = replace(read_state(period.folder), period=period.number)
+    if period.ended is None:
+        return state
+    rosters = [period.ended / roster_name(week) for week in range(period.days.weeks)]
+    are_kept = all(path.exists() for path in rosters)
+    cells = in_plan(read_solution(path).cells for path in rosters) if are_kept else state.cells
+    return replace(state, open_week=period.days.weeks, cells=cells)
+
+
+def end_of(period: Period, state: Optional[State] = None) -> History:
+    """The history at the end of a period, which may have this state: of what was worked, and where
+    that is not known yet, of what is planned."""
+    if period.ended:
+        return read_state(period.ended).start
+    state = state or state_of(period)
+    past = state.start
+    scenario = read_scenario(period.folder / "ward.txt")
+    for week in range(period.days.weeks):
+        past = next_history(scenario, past, state.roster(week), new_period=True)
+    return past
+
+
+def border_of(ward: Ward, after: State) -> Tuple[Claim, ...]:
+    """The shifts that nurses may not have on the last day of a period, since what they have on the
+    first day of the next one may not follow them."""
+    scenario = ward.scenario
+    week = ward.days.weeks
+    first = {cell.nurse: cell.shift for cell in after.cells if cell.day == 0}
+    return tuple(
+        Claim(Choice(week, nurse, WEEK_DAYS - 1, shift), holds=False)
+        for nurse, then in first.items()
+        for shift in scenario.shift_types
+        if nurse in scenario.nurses and scenario.forbids(shift, then)
+    )
+
+
+# ---- the ward of a period that is over
+
+
+@dataclass(frozen=True)
+class PastWard(Ward):
+    """The ward of a period that is over, as the folder of its plan has it, since the spreadsheet is
+    that of a later one."""
+
+    def with_absences(self, absences: Sequence[DayWord]) -> Ward:
+        """The same with these days away."""
+        words = {NurseDay(absence.nurse, absence.day): absence.word for absence in absences}
+        reasons = {**self.reasons, **words}
+        return replace(
+            self, reasons={place: word for place, word in reasons.items() if word != BACK}
+        )
+
+
+def past_plan(period: Period, now: Ward) -> WardPlan:
+    """The plan of a period that is over. Its times and new names are those of the ward of now."""
+    state = state_of(period)
+    folder = period.folder
+    scenario = read_scenario(folder / "ward.txt")
+    weeks = range(period.days.weeks)
+    words = read_reasons(folder / "reasons.txt", scenario)
+    ward = PastWard(
+        warnings=(),
+        reach=now.reach,
+        days=period.days,
+        scenario=scenario,
+        past=state.start,
+        claims=read_facts(folder / "facts.txt", scenario, period.days.weeks),
+        weeks=tuple(read_week(folder / f"week-{week}.txt", scenario) for week in weeks),
+        held=in_plan(_cells(folder / f"fix-{week}.txt") for week in weeks),
+        reasons={
+            NurseDay(away.nurse, WEEK_DAYS * (away.week - 1) + away.day): word
+            for away, word in words.items()
+        },
+        promised=frozenset(),
+        counted=_counted(folder, scenario, state.start),
+        times=now.times,
+        holidays=frozenset(),
+        week_rows=(),
+        was={},
+        book=now.book,
+    )
+    return plan_of(ward, state)
+
+
+def _cells(path: Path) -> Sequence[Cell]:
+    return read_solution(path).cells
+
+
+def _counted(folder: Path, scenario: Scenario, start: History) -> Counted:
+    """As what days away have counted: the history before the first week has them, and the start has
+    not."""
+    pairs = {
+        nurse: (start.nurses[nurse], past)
+        for nurse, past in read_history(folder / "history-0.txt", scenario).nurses.items()
+    }
+    return Counted(
+        shifts={nurse: past.assignments - old.assignments for nurse, (old, past) in pairs.items()},
+        weekends={nurse: past.weekends - old.weekends for nurse, (old, past) in pairs.items()},
+    )

@@ -1,0 +1,278 @@
+"""The files in which the folder of a plan keeps what verbs have made of a ward: `plan.json`, which
+says what they have written beside the shifts, and for each week a roster and a history, for
+`inrc2pb` and for people."""
+
+import datetime
+import json
+from pathlib import Path
+from typing import Any, Callable, Dict, List, Optional, Sequence, Tuple
+
+from ..sheets.written_days import DayWord
+from ..week.dates import PlanDays
+from ..week.faults import FileFault, Misuse
+from ..week.files import (
+    history_text,
+    read_history,
+    read_scenario,
+    read_solution,
+    read_week,
+    solution_text,
+)
+from ..week.own_files import check_own
+from ..week.records import Cell, History, NurseDay, Scenario, Solution, in_plan
+from ..week.slots import MAX_WEEKS, text_of
+from .state import Record, SetDay, State
+
+
+NAME = "plan.json"
+START = "start.txt"
+# The most bytes of a plan's file: that of the largest ward has some thousand days away.
+_MOST_BYTES = 1_000_000
+_CURE = "correct it, or type undo to go back to the plan before it"
+# What the plans of an older version do not have.
+_SET = "set days"
+_TYPED = "typed"
+_PERIOD = "period"
+# The most periods of a folder.
+_MOST_PERIODS = 9999
+
+
+def roster_name(week: int) -> str:
+    """The name of the file of a week's roster."""
+    return f"roster-{week}.txt"
+
+
+def record_text(record: Record) -> str:
+    """The text of the file of a record, in which days are numbers from the first Monday on."""
+    values = {
+        "verb": record.verb,
+        "time": f"{record.time:%Y-%m-%d %H:%M}",
+        "monday": None if record.days.monday is None else str(record.days.monday),
+        "weeks": record.days.weeks,
+        "weeks over": record.open_week,
+        "published": record.published,
+        "days away": [
+            list(absence if absence.lost is not None else absence[:3])
+            for absence in record.absences
+        ],
+        "agreed days": [list(place) for place in record.agreed],
+        _SET: [list(promise) for promise in record.set_days],
+        _TYPED: record.typed,
+        **({} if record.period is None else {_PERIOD: record.period}),
+    }
+    lines = [
+        f"  {json.dumps(name)}: {json.dumps(value, ensure_ascii=False)}"
+        for name, value in values.items()
+    ]
+    return "{\n" + ",\n".join(lines) + "\n}\n"
+
+
+def read_record(folder: Path) -> Record:
+    """The record of a plan's folder. Raises FileFault with place and cure if the file is not as a
+    verb has written it."""
+    path = folder / NAME
+    if not path.exists():
+        raise FileFault(
+            folder,
+            0,
+            "this folder is no plan: move it away, or type undo to go back to the plan before it",
+        )
+    check_own(folder)
+    if path.stat().st_size > _MOST_BYTES:
+        raise FileFault(path, 0, f"the file has more than {_MOST_BYTES} bytes: {_CURE}")
+    text = text_of(path)
+    for number, line in enumerate(text.split("\n"), 1):
+        if any("\udc80" <= letter <= "\udcff" for letter in line):
+            raise FileFault(
+                path,
+                number,
+                f"this line has a byte that is no UTF-8, as another program has saved it: {_CURE}",
+            )
+    try:
+        return _record_of(json.loads(text))
+    except json.JSONDecodeError as fault:
+        raise FileFault(
+            path, fault.lineno, f"this line was changed, and is no JSON any more: {_CURE}"
+        ) from fault
+    except (ValueError, RecursionError) as fault:
+        what = fault.args[0] if isinstance(fault, _Changed) else "it is no plan"
+        raise FileFault(path, 0, f"this file was changed: {what}: {_CURE}") from fault
+
+
+def known_record(folder: Path) -> Optional[Record]:
+    """The record of a plan's folder, if it is not damaged."""
+    try:
+        return read_record(folder)
+    except (FileFault, OSError):
+        return None
+
+
+class _Changed(ValueError):
+    """A value of the file that no verb has written, in words."""
+
+
+def _record_of(values: Any) -> Record:
+    names = (
+        "verb",
+        "time",
+        "monday",
+        "weeks",
+        "weeks over",
+        "published",
+        "days away",
+        "agreed days",
+        _SET,
+        _TYPED,
+        _PERIOD,
+    )
+    if not isinstance(values, dict) or {_SET, _TYPED, _PERIOD, *values} != set(names):
+        raise _Changed(f"it has not the names {', '.join(names)}")
+    values = {_SET: [], _TYPED: "", **values}
+    monday = values["monday"]
+    weeks = _taken(values, "weeks", _is_number_to(MAX_WEEKS))
+    days = PlanDays(None if monday is None else _time(values, "monday", "%Y-%m-%d").date(), weeks)
+    is_day = _is_number_to(days.total - 1)
+    open_week = _taken(values, "weeks over", _is_number_to(weeks))
+    absences = _rows(values, "days away", [_is_text, is_day, _is_text, _is_number_to(1)], least=3)
+    agreed = _rows(values, "agreed days", [_is_text, is_day])
+    set_days = _rows(
+        values, _SET, [_is_text, is_day, *[lambda value: isinstance(value, str)] * 3], least=3
+    )
+    return Record(
+        _taken(values, "verb", _is_text),
+        _time(values, "time", "%Y-%m-%d %H:%M"),
+        days,
+        open_week=open_week,
+        published=_taken(values, "published", lambda value: isinstance(value, bool)),
+        absences=tuple(DayWord(*row) for row in absences),
+        agreed=tuple(NurseDay(*row) for row in agreed),
+        set_days=tuple(SetDay(*(row if len(row) > 3 else [*row, None])) for row in set_days),
+        typed=_taken(values, _TYPED, lambda value: isinstance(value, str)),
+        period=_taken(values, _PERIOD, _is_number_to(_MOST_PERIODS)) if _PERIOD in values else None,
+    )
+
+
+def _is_text(value: object) -> bool:
+    return isinstance(value, str) and bool(value)
+
+
+def _is_number_to(most: int) -> Callable[[object], bool]:
+    return (
+        lambda value: isinstance(value, int) and not isinstance(value, bool) and 0 <= value <= most
+    )
+
+
+def _taken(values: Dict[str, Any], name: str, fits: Callable[[object], bool]) -> Any:
+    """The value of this name, if it fits."""
+    if not fits(values[name]):
+        raise _Changed(f"'{name}' has a value that no plan has")
+    return values[name]
+
+
+def _time(values: Dict[str, Any], name: str, form: str) -> datetime.datetime:
+    text = _taken(values, name, _is_text)
+    try:
+        return datetime.datetime.strptime(text, form)
+    except ValueError:
+        raise _Changed(f"'{name}' has a value that no plan has") from None
+
+
+def _rows(
+    values: Dict[str, Any],
+    name: str,
+    fits: Sequence[Callable[[object], bool]],
+    least: Optional[int] = None,
+) -> List[List[Any]]:
+    """The rows of this name, whose values fit one by one: all of them, or the first ones, at least
+    so many."""
+    lengths = range(len(fits) if least is None else least, len(fits) + 1)
+    rows = _taken(values, name, lambda value: isinstance(value, list))
+    for number, row in enumerate(rows, 1):
+        if (
+            not isinstance(row, list)
+            or len(row) not in lengths
+            or not all(fit(value) for fit, value in zip(fits, row))
+        ):
+            raise _Changed(f"row {number} of '{name}' is none of a plan")
+    return list(rows)
+
+
+def read_state(folder: Path) -> State:
+    """Reads the folder of a plan."""
+    record = read_record(folder)
+    planned = next(
+        (week for week in range(record.days.weeks) if not (folder / roster_name(week)).exists()),
+        record.days.weeks,
+    )
+    cells = in_plan([read_solution(folder / roster_name(week)).cells for week in range(planned)])
+    start = read_history(folder / START, read_scenario(folder / "ward.txt"))
+    return State(
+        days=record.days,
+        start=start,
+        open_week=record.open_week,
+        planned=planned,
+        cells=cells,
+        published=record.published,
+        absences=record.absences,
+        agreed=record.agreed,
+        set_days=_with_shifts(record.set_days, cells),
+        period=record.period or 0,
+    )
+
+
+def check_readable(folder: Path) -> None:
+    """Raises Misuse if no verb could read the plan that was written to this folder."""
+    try:
+        days = read_state(folder).days
+        ward = read_scenario(folder / "ward.txt")
+        for week in range(days.weeks):
+            read_week(folder / f"week-{week}.txt", ward)
+    except FileFault as fault:
+        what = f"{fault.path.name}: {fault.message.removesuffix(f': {_CURE}')}"
+        raise Misuse(
+            f"nothing is written, since no verb could read it again: {what}: give fewer words, or"
+            " take days back that are set"
+        ) from fault
+
+
+def _with_shifts(set_days: Sequence[SetDay], cells: Sequence[Cell]) -> Tuple[SetDay, ...]:
+    """The days that were set, those of an older version with the shifts of the rosters."""
+    works = {NurseDay(cell.nurse, cell.day): cell for cell in cells}
+    pairs = ((promise, works.get(promise.place)) for promise in set_days)
+    return tuple(
+        (
+            promise
+            if promise.shift is not None
+            else promise._replace(
+                shift=cell.shift if cell else "", skill=cell.skill if cell else ""
+            )
+        )
+        for promise, cell in pairs
+    )
+
+
+def state_texts(
+    state: State, record: Record, scenario: Scenario, histories: Sequence[History]
+) -> Dict[str, str]:
+    """The files of a plan's folder beside those of the ward: what its verbs have written, and the
+    rosters and histories that are known."""
+    texts = {START: history_text(state.start), NAME: record_text(record)}
+    texts.update(
+        {
+            f"history-{week}.txt": history_text(past)
+            for week, past in enumerate(histories[: state.open_week + 1])
+        }
+    )
+    return {**texts, **roster_texts(state, scenario)}
+
+
+def roster_texts(state: State, scenario: Scenario) -> Dict[str, str]:
+    """The files of the rosters that are known, with the nurses in the order of the ward."""
+    order = {nurse: number for number, nurse in enumerate(scenario.nurses)}
+    texts = {}
+    for week in range(state.planned):
+        cells = sorted(
+            state.roster(week), key=lambda cell: (order.get(cell.nurse, len(order)), cell.day)
+        )
+        texts[roster_name(week)] = solution_text(Solution(week, scenario.name, tuple(cells)))
+    return texts

@@ -1,0 +1,169 @@
+"""The verbs that search share this: a search for a plan, and the plan that is written."""
+
+from dataclasses import replace
+from typing import Callable, List, Optional, Sequence
+
+from ..programs.clock import Clock
+from ..programs.interrupts import interrupts
+from ..programs.program import NO_ROSTER
+from ..week.faults import ProgramFault, Stopped
+from .absence import Away
+from .exchanges import STEPS_A_SECOND, more_even
+from .facts import newly_exceeded, unkept, while_away
+from .needless_changes import without_needless_changes
+from .planned import Cause, NoPlan, Planned
+from .searching import Asked, Found, Keep, search_plan, why_no_plan
+from .store import PlanStore, penalties
+from .verb import Event, Outcome, Status, saved
+from .ward import WardPlan, for_leavers
+
+# The seconds of a search, for each week if it is a whole plan.
+WEEK_SECONDS = 20.0
+CHANGE_SECONDS = 30.0
+# The part of the seconds of a search for a plan that keeps the agreed days, since another search
+# may be needed for one that does not.
+FIRM_SHARE = 0.75
+# The part of the seconds of a whole plan in which a quiet machine makes nights and weekends more
+# even, and how many seconds at most, or if the user has stopped the search.
+EVENING_SHARE = 0.1
+MOST_EVENING = 8.0
+STOPPED_EVENING = 0.3
+# What a search says before it begins anew.
+WITHOUT_AGREED = (
+    "no plan was found that keeps all agreed swaps: a search for one that may break them"
+)
+FIRM = "no plan was found that keeps all of this"
+FOR_REASON = "no plan was found: a search for the reason, at most 30 s for each week"
+
+
+def searched_for(store: PlanStore, event: Event, absence: Away, *named: int) -> Outcome:
+    """The outcome of a search with an absence, or without it; the verb is named with these days. If
+    the days alone exceed a maximum that holds, there is no search before the user is asked."""
+    if not event.do and newly_exceeded(absence.old, absence.there):
+        return replace(absence, status=Status.NOT_KEPT)
+    say(store, absence.begin())
+    verb = " ".join([absence.word, absence.nurse, *map(absence.old.days.head, named)])
+    asked = Asked(absence.days[0], True, event.seconds or CHANGE_SECONDS, do=event.do)
+    return searched(store, event, verb, absence.new, asked, absence)
+
+
+def searched(
+    store: PlanStore,
+    event: Event,
+    verb: str,
+    old: WardPlan,
+    asked: Asked,
+    cause: Optional[Cause] = None,
+) -> Outcome:
+    """Searches, and writes the plan. The `cause` has the plan without what it asks for."""
+    say(store, search_lines(old, asked, store.means.end))
+    store.means.progress.counts_changes = asked.few_changes and old.is_planned
+    # A second Ctrl-C does not end it before the plan is written.
+    with interrupts() as signals, signals.ending():
+        try:
+            found = _found(store, old, asked._replace(seconds=asked.seconds - _evening(asked)))
+        except Stopped:
+            raise
+        except ProgramFault as fault:
+            return _no_plan(store, old, asked, fault, cause)
+        during_search = len(signals.caught)
+
+        def ends() -> bool:
+            return len(signals.caught) > during_search
+
+        if asked.few_changes and old.is_planned:
+            found = found._replace(plan=without_needless_changes(old, found.plan, ends))
+        if not asked.few_changes:
+            found = found._replace(plan=_evened(found, asked, ends))
+        works = found.plan.works
+        before = old.works
+        new = found.plan.with_state(
+            found.plan.state.agreeing(lambda place: works.get(place) == before.get(place))
+        )
+        older = cause.old if cause else old
+        seen = older if old.is_planned else None
+        if asked.is_firm and (newly_exceeded(seen, new) or while_away(new) > while_away(older)):
+            raise ProgramFault(NO_ROSTER, FIRM)
+        status = Status.NOT_KEPT if unkept(new) else Status.DONE
+        planned = Planned(
+            before=seen,
+            old=old,
+            asked=asked,
+            plan=new,
+            penalties=penalties(new),
+            bound=found.bound,
+            is_stopped=found.stopped or ends(),
+            ended_by=next(iter(signals.caught), None),
+            cause=cause,
+            verb=verb,
+            status=status,
+        )
+        if not asked.do and newly_exceeded(seen, new):
+            return replace(planned, status=Status.NOT_KEPT)
+        if event.look:
+            return replace(planned, is_look=True)
+        return saved(planned, store.save(verb, new, event.typed))
+
+
+def search_lines(plan: WardPlan, asked: Asked, end: str) -> List[str]:
+    """What a search begins with; `end` says how a user ends it."""
+    days = plan.days.span([asked.first, plan.days.total - 1])
+    return [f"{days}, at most {asked.seconds:g} seconds in all{f'; {end}' if end else ''}"]
+
+
+def say(store: PlanStore, said: Sequence[str]) -> None:
+    """Says what goes before the result of a verb."""
+    for line in said:
+        store.means.say(line)
+
+
+def _evened(found: Found, asked: Asked, ends: Callable[[], bool] = lambda: False) -> WardPlan:
+    """The plan with nights and weekends that are shared more evenly, if the program charges as much
+    for it."""
+    seconds = STOPPED_EVENING if found.stopped else _evening(asked)
+    even = more_even(found.plan, asked.first, round(STEPS_A_SECOND * seconds), ends)
+    return (
+        even if sum(penalties(even).values()) == sum(penalties(found.plan).values()) else found.plan
+    )
+
+
+def _evening(asked: Asked) -> float:
+    """The seconds in which nights and weekends are made more even: none if few shifts change."""
+    return 0.0 if asked.few_changes else min(EVENING_SHARE * asked.seconds, MOST_EVENING)
+
+
+def _found(store: PlanStore, old: WardPlan, asked: Asked) -> Found:
+    """The best plan that keeps the agreed days, or, if it would keep less of the absences and
+    limits, one that keeps most of them."""
+    if asked.is_firm or not (old.state.set_days if asked.agreed is Keep.NONE else old.state.kept):
+        return search_plan(old, asked, store.means.progress)
+    clock = Clock(asked.seconds)
+    firm: Optional[Found] = None
+    try:
+        first = asked._replace(seconds=FIRM_SHARE * asked.seconds)
+        firm = search_plan(old, first, store.means.progress)
+        if firm.stopped or not unkept(for_leavers(firm.plan, asked.first)):
+            return firm
+    except Stopped:
+        raise
+    except ProgramFault as fault:
+        if fault.status != NO_ROSTER:
+            raise
+    store.means.say(WITHOUT_AGREED)
+    store.means.progress.counts_changes = old.is_planned
+    second = asked._replace(agreed=Keep.MOST, seconds=clock.left())
+    free = search_plan(old, second, store.means.progress)
+    return firm if firm and len(unkept(firm.plan)) <= len(unkept(free.plan)) else free
+
+
+def _no_plan(
+    store: PlanStore, old: WardPlan, asked: Asked, fault: ProgramFault, cause: Optional[Cause]
+) -> NoPlan:
+    """Which minimum numbers to lower, if that is why there is no plan."""
+    if fault.status != NO_ROSTER or asked.is_firm:
+        raise fault
+    store.means.say(FOR_REASON)
+    why = why_no_plan(old)
+    if why is None:
+        raise fault
+    return NoPlan(old, *why, cause, status=Status.NO_PLAN)

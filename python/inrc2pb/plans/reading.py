@@ -1,0 +1,216 @@
+"""The plans of a ward's folder as they hold, by their periods, with what its spreadsheet says
+now."""
+
+import contextlib
+import shlex
+from dataclasses import replace
+from typing import Dict, Iterator, List, NamedTuple, Optional, Sequence, Tuple
+
+from ..sheets.week_rows import WeekRow, unchanged_rows
+from ..week.dates import PlanDays
+from ..week.faults import FileFault, FileFaults, Misuse
+from ..week.files import read_scenario, read_week
+from ..week.own_files import check_no_link
+from ..week.records import WEEK_DAYS, History
+from .periods import (
+    Kept,
+    Period,
+    border_of,
+    end_of,
+    kept_plans,
+    past_plan,
+    periods_of,
+    state_of,
+)
+from .fits import check_sheet
+from .plan_files import read_state
+from .state import State
+from .ward import WardPlan, continued, first_plan
+from .ward_folder import WardFolder
+
+# The verb that hangs a plan up.
+PAGE = "page"
+
+
+class Strangers(NamedTuple):
+    """Nurses of whom some may have another name in the spreadsheet than in the last plan."""
+
+    # Those whom the last plan does not have.
+    come: Tuple[str, ...] = ()
+    # Those whom the spreadsheet does not have.
+    gone: Tuple[str, ...] = ()
+
+
+class PlanReader:
+    """The plans of a folder. Verbs are about the period with this number, or about the first one
+    that is not over."""
+
+    def __init__(self, folder: WardFolder, number: Optional[int] = None) -> None:
+        self.folder = folder
+        self._number = number
+
+    def periods(self) -> List[Period]:
+        """The periods of the folder."""
+        check_no_link(self.folder.plans)
+        return periods_of(self.folder.all_plans())
+
+    def open_days(self) -> Dict[int, PlanDays]:
+        """The days of the periods that are not over, by their numbers: of those that have a plan,
+        and of the next one, if the sheet plan has them."""
+        periods = self.periods()
+        days = {period.number: period.days for period in periods if not period.is_over}
+        if periods and periods[-1].days.monday is not None:
+            after = periods[-1].days.next()._replace(weeks=periods[0].days.weeks)
+            with contextlib.suppress(FileFault, FileFaults):
+                if self.folder.days().first_of(after) is not None:
+                    days[periods[-1].number + 1] = after
+        return days
+
+    def current(self, corrected: Optional[State] = None) -> WardPlan:
+        """The plan that holds, with what the spreadsheet says now. The period before it may have
+        this state, which is not written yet."""
+        periods = self.periods()
+        number = self._number if self._number is not None else running(periods)
+        return self.plan_of(number, corrected) if periods else first_plan(self.folder.ward())
+
+    def plan_of(self, number: int, corrected: Optional[State] = None) -> WardPlan:
+        """The same of the period with this number, which has a plan, or follows one that has."""
+        periods = {period.number: period for period in self.periods()}
+        known = periods.get(number)
+        for period in periods.values():
+            if period.number > number and period.days.monday is not None:
+                check_sheet(self.folder.days(), period.days)
+        before = periods.get(number - 1)
+        past = _end(before, corrected) if before else None
+        begun = State(before.days.next(), past, period=number) if before and past else None
+        state = state_of(known) if known else begun
+        assert state
+        state = replace(state, is_as_planned=before is not None and not before.is_over)
+        weeks = next(iter(periods.values())).days.weeks
+        days = state.days if known else _first_weeks(self.folder.days(), state.days, weeks)
+        ward = self.folder.ward(state.start.scenario, state.absences, days)
+        after = periods.get(number + 1)
+        border = border_of(ward, state_of(after).renamed(ward.name_now)) if after else ()
+        return continued(ward.with_border(border), state, past)
+
+    def before_and_after(
+        self, corrected: State, number: Optional[int] = None
+    ) -> Tuple[Optional[WardPlan], Optional[WardPlan]]:
+        """The plan that holds of a period, as it is, and if an older period has this state; None if
+        there is none yet."""
+        try:
+            found = running(self.periods()) if number is None else number
+            return self.plan_of(found), self.plan_of(found, corrected)
+        except Misuse:
+            return None, None
+
+    def following(self, new: WardPlan) -> Tuple[Optional[WardPlan], Optional[WardPlan]]:
+        """The plan of the next period, as it is, and after this plan; None if there is none."""
+        numbers = [period.number for period in self.periods()]
+        number = new.state.period + 1
+        return self.before_and_after(new.state, number) if number in numbers else (None, None)
+
+    def name_now(self, nurse: str) -> str:
+        """The name that a nurse of an older plan has in the spreadsheet."""
+        return self.folder.ward().name_now(nurse)
+
+    def past_plans(self) -> Iterator[WardPlan]:
+        """The plans of the periods that are over, the last one first."""
+        for period in reversed(self.periods()):
+            if period.is_over:
+                yield past_plan(period, self.folder.ward())
+
+    def planned(self) -> WardPlan:
+        """The same. Raises Misuse if it has no rosters."""
+        plan = self.current()
+        if not plan.is_planned:
+            raise Misuse(
+                f"{self.folder.top} has no plan yet: type inrc2pb-plan"
+                f" {shlex.quote(str(self.folder.top))} plan"
+            )
+        return plan
+
+    def fitting(self) -> WardPlan:
+        """The same. Raises Misuse if the spreadsheet does not have its names any more."""
+        return fitted(self.planned())
+
+    def hung_up(self, plan: WardPlan) -> Optional[WardPlan]:
+        """The last plan of the same days that was hung up before the one that holds, if the
+        spreadsheet still has its names."""
+        older = reversed(self.kept(plan)[:-1])
+        path = next((kept.folder for kept in older if kept.record.verb == PAGE), None)
+        if path is None:
+            return None
+        try:
+            state = read_state(path)
+            return continued(plan.ward.with_absences(state.absences), state)
+        except (FileFault, Misuse, OSError):
+            return None
+
+    def kept(self, plan: WardPlan) -> List[Kept]:
+        """The plans of the period of a plan, in the order in which they were made."""
+        return [
+            kept for kept in kept_plans(self.folder.all_plans()) if kept.period == plan.state.period
+        ]
+
+    def anew(self, plan: WardPlan) -> Tuple[WeekRow, ...]:
+        """The rows of the needs that are as they were in the last period, at the begin of the next
+        one."""
+        periods = self.periods()
+        if not periods or periods[-1].number >= plan.state.period:
+            return ()
+        last = periods[-1].folder
+        ward = read_scenario(last / "ward.txt")
+        paths = {row.week: last / f"week-{row.week}.txt" for row in plan.ward.week_rows}
+        older = {
+            number: read_week(path, ward).requirements
+            for number, path in paths.items()
+            if path.exists()
+        }
+        return tuple(unchanged_rows(plan.ward.week_rows, older))
+
+    def strangers(self, plan: WardPlan) -> Strangers:
+        """The nurses whom the last plan does not have, and those of the last plan whom the
+        spreadsheet does not have."""
+        periods = self.periods()
+        if not periods:
+            return Strangers()
+        before = state_of(periods[-1]).renamed(plan.ward.name_now).start.nurses
+        now = plan.scenario.nurses
+        return Strangers(
+            tuple(nurse for nurse in now if nurse not in before),
+            tuple(nurse for nurse in before if nurse not in now),
+        )
+
+
+def fitted(plan: WardPlan) -> WardPlan:
+    """The plan. Raises Misuse if the spreadsheet does not have its names any more."""
+    if plan.unknown:
+        row = plan.unknown[0]._replace(day=plan.unknown[0].day % WEEK_DAYS).row()
+        names = f"the plan has '{row}', and the spreadsheet has not all of these names"
+        raise Misuse(
+            f"{names}: the verb plan makes a plan that fits, undo goes back to the plan before it"
+        )
+    return plan
+
+
+def running(periods: Sequence[Period]) -> int:
+    """The number of the first period that is not over."""
+    after = periods[-1].number + 1 if periods else 0
+    return next((period.number for period in periods if not period.is_over), after)
+
+
+def _first_weeks(sheet: PlanDays, begun: PlanDays, usual: int) -> Optional[PlanDays]:
+    """The days of a period that begins on a Monday: as many weeks as usual, if the sheet has whole
+    periods of these from there on, or else all that it has."""
+    first = sheet.first_of(begun)
+    if first is None or first >= sheet.total:
+        return None
+    rest = sheet.weeks - first // WEEK_DAYS
+    return begun._replace(weeks=rest if rest % usual else usual)
+
+
+def _end(period: Period, corrected: Optional[State]) -> History:
+    """The history at the end of a period, which may have this state."""
+    is_it = corrected is not None and corrected.period == period.number
+    return end_of(period._replace(ended=None), corrected) if is_it else end_of(period)

@@ -1,0 +1,73 @@
+"""The verbs of a ward's folder: all that the terminal and the page can ask for."""
+
+from dataclasses import replace
+from typing import Dict, Optional, Tuple
+
+from ..week.records import NurseDay
+from .planned import Planned
+from .store import Means, PlanStore
+from .swaps import Swap
+from .verb import Event, Outcome, Verb, saved
+from .verbs import away, back, check, over, page, plan, set_day, swap, undo
+from .ward import WardPlan
+from .ward_folder import WardFolder
+
+# In the order of the help and of the page.
+VERBS: Tuple[Verb, ...] = (
+    check.VERB,
+    plan.VERB,
+    away.VERB,
+    back.VERB,
+    swap.VERB,
+    set_day.VERB,
+    over.VERB,
+    page.VERB,
+    undo.VERB,
+)
+CHECK, PLAN, OVER, UNDO = (verb.VERB.names[0] for verb in (check, plan, over, undo))
+BY_NAME = {name: verb for verb in VERBS for name in verb.names}
+
+
+class Verbs:
+    """The verbs of a folder."""
+
+    def __init__(self, folder: WardFolder, means: Means) -> None:
+        self._store = PlanStore(folder, means)
+
+    def current(self) -> WardPlan:
+        """The plan that holds, with what the spreadsheet says now."""
+        return self._store.current()
+
+    def worked_pages(self, now: Optional[WardPlan]) -> Dict[str, str]:
+        """The pages of weeks that are over, with this plan, if there is one, and their texts."""
+        return self._store.worked_pages(now)
+
+    def hung_up(self, now: WardPlan) -> Optional[WardPlan]:
+        """The last plan of the same days that was hung up before the one that holds."""
+        return self._store.hung_up(now)
+
+    def agreed_swap(self, now: WardPlan, place: NurseDay) -> Optional[Swap]:
+        """The last swap that was written for a nurse's day, if the plan keeps it."""
+        return swap.agreed_swap(self._store, now, place)
+
+    def asked(self, event: Event) -> Optional[Outcome]:
+        """What comes of an event before anything is searched or written, as far as that is known.
+        Raises Misuse if what is asked for cannot be."""
+        return BY_NAME[event.verb].asked(self._store_of(event), event)
+
+    def done(self, event: Event) -> Outcome:
+        """Does what an event asks for. Raises Misuse if that cannot be."""
+        return BY_NAME[event.verb].done(self._store_of(event), event)
+
+    def _store_of(self, event: Event) -> PlanStore:
+        """The plans of the period that an event is about. A week ends in the one that runs."""
+        if event.verb in (CHECK, OVER, UNDO):
+            return self._store
+        return self._store.of_dates(event.words, plans=event.verb == PLAN)
+
+    def written(self, planned: Planned, event: Event) -> Planned:
+        """Writes the plan that an event has found, after its user has looked at it."""
+        return saved(
+            replace(planned, is_look=False),
+            self._store.save(planned.verb, planned.plan, event.typed),
+        )

@@ -1,0 +1,141 @@
+"""The verb that names the mistakes of the spreadsheet, and prints the ward in sentences."""
+
+from dataclasses import dataclass
+from typing import Iterator, List, Tuple
+
+from ...judging.odd_values import Reach
+from ...sheets.week_rows import WeekRow
+from ...shown.ward_sentences import (
+    history_sentences,
+    limit_sentences,
+    scenario_sentences,
+    supply_text,
+    ward_sentence,
+)
+from ...shown.week_sentences import DescribedWeek, weeks_sentences
+from ...shown.why import plain_breach_lines
+from ...week.records import WEEK_DAYS, in_week
+from ...week.words import readable
+from ..odd_sheet import warning_lines
+from ..sentences import beside_lines, exceeded_lines, working_lines
+from ..reading import Strangers
+from ..store import PlanStore
+from ..verb import Event, Form, Outcome, Status, Verb
+from ..ward import WardPlan
+
+
+@dataclass(frozen=True)
+class Checked(Outcome):
+    """The spreadsheet was read."""
+
+    plan: WardPlan
+    # The pages that show another plan.
+    other_pages: Tuple[str, ...] = ()
+    # The rows of needs that are as they were last period.
+    anew: Tuple[WeekRow, ...] = ()
+    # Nurses who may have another name now.
+    strangers: Strangers = Strangers()
+    # What is odd in the days of later periods.
+    later: Tuple[str, ...] = ()
+
+    def lines(self, write: str = "") -> List[str]:
+        """What is odd in the spreadsheet and wrong in the plan that holds, and the ward in
+        sentences."""
+        plan = self.plan
+        said = [
+            *warning_lines(plan, self.other_pages, self.anew, self.strangers),
+            *self.later,
+            *(
+                f"warning: {line}"
+                for line in (*working_lines(plan), *exceeded_lines(plan), *beside_lines(plan))
+            ),
+        ]
+        if plan.is_planned and plan.weeks:
+            said += plain_breach_lines(plan.view())
+        said = [*(said or ["No mistake found."]), "", *_ward_lines(plan)]
+        if self.status != Status.DONE:
+            said += ["", "No plan can keep all of this: do what the warnings at the top say."]
+        return [readable(line) for line in said]
+
+
+def _done(store: PlanStore, _event: Event) -> Checked:
+    """Reads the spreadsheet. The status is that which a plan would have, as far as the warnings
+    show it."""
+    plan = store.current()
+    status = {Reach.NONE: Status.NO_PLAN, Reach.NOT_ALL: Status.NOT_KEPT, Reach.ALL: Status.DONE}[
+        plan.ward.reach
+    ]
+    known = warning_lines(plan)
+    later = (store.plan_of(number) for number in store.open_days() if number > plan.state.period)
+    return Checked(
+        plan,
+        store.other_pages(),
+        store.anew(plan),
+        store.strangers(plan),
+        tuple(line for other in later for line in warning_lines(other) if line not in known),
+        status=status,
+    )
+
+
+def _ward_lines(plan: WardPlan) -> List[str]:
+    """The ward and the weeks that are not over in sentences: first its size, and what its weeks ask
+    for and the contracts supply."""
+    limits = limit_sentences(plan.scenario, plan.data[plan.state.open_week]) if plan.weeks else ()
+    past = history_sentences(plan.past, plan.ward.counted)
+    weeks = [
+        DescribedWeek(
+            number,
+            plan.data[number],
+            plan.reasons(number),
+            in_week(plan.ward.held, number),
+            _calendar_name(plan, number),
+        )
+        for number in plan.weeks
+    ]
+    sentences = weeks_sentences(
+        plan.scenario, weeks, lambda days: plan.days.spans([plan.first + day for day in days])
+    )
+    return [
+        ward_sentence(plan.scenario),
+        *_supplies(plan),
+        "",
+        *scenario_sentences(plan.scenario),
+        *limits,
+        "",
+        *past,
+        "",
+        *sentences,
+    ]
+
+
+def _calendar_name(plan: WardPlan, number: int) -> str:
+    """The name of a week with that of the calendar, if the plan has dates."""
+    return plan.days.week_text(number) if plan.days.monday else ""
+
+
+def _supplies(plan: WardPlan) -> Iterator[str]:
+    """A line for each week. A plan takes nothing from what is left after the weeks that are
+    over."""
+    paid = {number: plan.ward.counted.of_week(number) for number in plan.weeks}
+    for number in plan.weeks:
+        own_first = [paid[number], *(shifts for other, shifts in paid.items() if other != number)]
+        supply = supply_text(plan.scenario, plan.past, plan.data[number], own_first)
+        yield (
+            f"{plan.days.week_text(number).capitalize()}, {plan.days.text(WEEK_DAYS * number)}:"
+            f" {supply}."
+        )
+
+
+VERB = Verb(
+    names=("check",),
+    words="",
+    effect="name the mistakes of the spreadsheet, and print the ward in sentences",
+    done=_done,
+    form=Form(
+        verb="check",
+        button="Read the spreadsheet",
+        text="names its mistakes, and prints the ward in sentences; writes nothing",
+        needs_plan=False,
+        writes="",
+    ),
+)

@@ -1,0 +1,59 @@
+"""The verb that hangs a plan up: it writes the pages and calendars."""
+
+from dataclasses import dataclass, replace
+from typing import List
+
+from ..sentences import exceeded_lines, working_lines
+from ..reading import PAGE
+from ..store import PlanStore
+from ..verb import Event, Form, Outcome, Verb, saved, wording_of
+from ..ward import WardPlan
+
+
+@dataclass(frozen=True)
+class Published(Outcome):
+    """The plan hangs on the wall now."""
+
+    plan: WardPlan
+
+    def lines(self, write: str = "") -> List[str]:
+        """What the plan on the wall exceeds, and its pages."""
+        return [
+            *working_lines(self.plan),
+            *exceeded_lines(self.plan),
+            *self.pages.lines(),
+        ]
+
+
+def _asked(store: PlanStore, event: Event) -> Published:
+    old = store.fitting()
+    wording = wording_of(old, event, "page, or page 4.1. for the period of this day")
+    if not wording.is_over:
+        wording.day()
+    wording.end()
+    return Published(old.with_state(replace(old.state, published=True)))
+
+
+def _done(store: PlanStore, event: Event) -> Published:
+    """Writes all pages and calendars."""
+    published = _asked(store, event)
+    return saved(published, store.save(PAGE, published.plan, event.typed))
+
+
+VERB = Verb(
+    names=(PAGE,),
+    words="[DAY]",
+    effect=(
+        "write the pages and calendars, of the period that runs or of that of a day; from now on"
+        " its plans change little"
+    ),
+    asked=_asked,
+    done=_done,
+    form=Form(
+        verb=PAGE,
+        button="Publish",
+        text="the plan; from now on plans change little",
+        refused="the plan was not published",
+        writes="the page for the wall and the calendars",
+    ),
+)

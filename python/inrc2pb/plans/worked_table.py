@@ -1,0 +1,87 @@
+"""The table of what was worked, which payroll can read: a row for each nurse's day of a week that
+is over on which she worked, was to work, or was away. It is a copy, which no verb reads."""
+
+import csv
+import io
+from pathlib import Path
+from typing import Callable, Dict, Iterator, List, Sequence, Tuple
+
+from ..week.facts import read_reasons
+from ..week.faults import FileFault
+from ..week.files import read_scenario
+from ..week.records import WEEK_DAYS, Cell, NurseDay
+from ..week.words import readable
+from .kept_shifts import known_cells
+from .periods import Period, kept_plans, periods_of, state_of
+from .plan_files import roster_name
+
+HEADS = ("nurse", "date", "shift type", "skill", "planned")
+# With one of these a spreadsheet takes a text for a formula.
+_FORMULA = ("=", "+", "-", "@")
+
+
+def worked_text(folders: Sequence[Path], name_now: Callable[[str], str]) -> str:
+    """The table of all periods of these folders that have dates, with the names that nurses have
+    now; nothing if no week is over. `planned` is the shift of the last plan before the week was
+    over."""
+    planned = _planned_files(folders)
+    rows: List[Tuple[str, ...]] = []
+    for period in periods_of(folders):
+        if period.days.monday is not None:
+            rows += _rows(period, planned, name_now)
+    if not rows:
+        return ""
+    text = io.StringIO()
+    csv.writer(text, lineterminator="\n").writerows([HEADS, *rows])
+    return text.getvalue()
+
+
+def _planned_files(folders: Sequence[Path]) -> Dict[Tuple[int, int], Path]:
+    """The roster of each period and week as it was planned last, before the week was over."""
+    return {
+        (number, week): folder / roster_name(week)
+        for folder, record, number in kept_plans(folders)
+        for week in range(record.open_week, record.days.weeks)
+    }
+
+
+def _rows(
+    period: Period, planned: Dict[Tuple[int, int], Path], name_now: Callable[[str], str]
+) -> Iterator[Tuple[str, ...]]:
+    """The rows of a period, but for damaged folders."""
+    try:
+        state = state_of(period)
+        ward = read_scenario(period.folder / "ward.txt")
+        words = read_reasons(period.folder / "reasons.txt", ward)
+    except (FileFault, OSError):
+        return
+    away = {NurseDay(one.nurse, WEEK_DAYS * (one.week - 1) + one.day): words[one] for one in words}
+    before = _cells([planned.get((period.number, week)) for week in range(state.open_week)])
+    works = {NurseDay(cell.nurse, cell.day): cell for cell in state.cells}
+    order = {nurse: number for number, nurse in enumerate(ward.nurses)}
+    places = sorted(
+        (place for place in {*works, *before, *away} if place.day < state.first),
+        key=lambda place: (place.day, order.get(place.nurse, len(order)), place.nurse),
+    )
+    for place in places:
+        cell = works.get(place)
+        shift = cell.shift if cell else away.get(place, "")
+        was = before.get(place)
+        texts = [name_now(place.nurse), shift, cell.skill if cell else "", was.shift if was else ""]
+        nurse, shift, skill, plan = (_safe(readable(text)) for text in texts)
+        yield nurse, str(period.days.date(place.day)), shift, skill, plan
+
+
+def _cells(paths: Sequence[Path | None]) -> Dict[NurseDay, Cell]:
+    """The shifts of these rosters of weeks, as far as they are there."""
+    cells = {}
+    for week, path in enumerate(paths):
+        for cell in known_cells(path) if path else ():
+            day = WEEK_DAYS * week + cell.day
+            cells[NurseDay(cell.nurse, day)] = cell._replace(day=day)
+    return cells
+
+
+def _safe(text: str) -> str:
+    """The text of a cell that no spreadsheet takes for a formula."""
+    return f"'{text}" if text.startswith(_FORMULA) else text

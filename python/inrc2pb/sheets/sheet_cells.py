@@ -1,0 +1,160 @@
+"""The cells of a sheet: their texts, as names, numbers and words, and faults that name a cell."""
+
+import re
+import unicodedata
+from typing import Collection, List, NamedTuple, NoReturn, Optional, Sequence
+
+from ..week.faults import FileFault
+from ..week.slots import MAX_NUMBER, SIGNS, did_you_mean
+from ..week.words import quoted, readable
+from .sheet_files import Book
+
+
+_SEVERAL = re.compile(r"[,;/]")
+# Signs without a width, which a text from a page or a message may have.
+_NO_WIDTH = re.compile("[\u200b-\u200d\u2060\ufeff]")
+SUM = re.compile(r"=([0-9]{1,4})\+([0-9]{1,4})")
+# A number with words or a sign, as `ca. 2`, `~2` or `2 nurses`.
+_ABOUT = re.compile(
+    r"(?:(?:[^\W\d]+(?:\. ?| ))+|[~<>?\u2264\u2265\u00b1] ?)([0-9]{1,4})|([0-9]{1,4})"
+    r" ?(?:[^\W\d]+\.?|[?])"
+)
+# The sign after a maximum that is never exceeded.
+KEPT = "!"
+
+
+def tidy(text: str) -> str:
+    """The text with composed letters, and with one blank for each sequence of them, of whatever
+    kind."""
+    return " ".join(_NO_WIDTH.sub("", unicodedata.normalize("NFC", text)).split())
+
+
+def about(text: str) -> str:
+    """The only number of a text that has words or a sign beside it; nothing if it is something
+    else."""
+    number = _ABOUT.fullmatch(text)
+    return number[1] or number[2] if number else ""
+
+
+def letters_of(column: int) -> str:
+    """The letters of a column, counted from 0."""
+    letters = ""
+    while column >= 0:
+        column, rest = divmod(column, 26)
+        letters = chr(ord("A") + rest) + letters
+        column = column - 1
+    return letters
+
+
+class SheetCell(NamedTuple):
+    """The text of a cell, and its place."""
+
+    text: str
+    book: Book
+    sheet: str
+    row: int
+    column: int
+
+    def fault(self, message: str) -> NoReturn:
+        """Raises a fault of this cell."""
+        raise FileFault(
+            self.book.path,
+            0,
+            f"sheet {self.sheet}, row {self.row}, column {letters_of(self.column)}: {message}",
+        )
+
+    def parts(self) -> List["SheetCell"]:
+        """The cell as several, if it has a list with commas, semicolons or slashes."""
+        return [
+            self._replace(text=part.strip()) for part in _SEVERAL.split(self.text) if part.strip()
+        ]
+
+    def number(
+        self, default: Optional[int] = None, most: int = MAX_NUMBER, pair: str = "", typed: str = ""
+    ) -> int:
+        """The whole number of the cell; an empty one has the default, if there is one. `pair` says
+        how two numbers are written, if it may have them: a fault names it, and quotes what was
+        `typed`, if that has more than the number.
+        """
+        if not self.text and default is not None:
+            return default
+        added = SUM.fullmatch(self.text)
+        if added:
+            total = int(added[1]) + int(added[2])
+            if pair:
+                self.fault(
+                    f"'{self.text}' is a sum: write {self.text[1:]} without the sign =, or {total}"
+                )
+            return self._replace(text=str(total)).number(default, most)
+        digits = re.sub(r"[.,](?!000$)0*$", "", self.text)
+        if not re.fullmatch("[0-9]{1,9}", digits):
+            otherwise = ", or leave the cell empty" if default is not None else ""
+            self.fault(
+                f"'{typed or self.text}' is no whole number: {self._advice(pair, otherwise)}"
+            )
+        if int(digits) > MAX_NUMBER:
+            self.fault(
+                f"{digits} is more than {most}: a spreadsheet makes such a number of 2-3 or 2/3, so"
+                f" write {pair or 'one number'}"
+            )
+        if int(digits) > most:
+            self.fault(f"{digits} is more than {most}: write a smaller number")
+        return int(digits)
+
+    def _advice(self, pair: str, empty: str) -> str:
+        """What to write in place of a text that is no whole number. `empty` says that the cell may
+        be empty, if it may."""
+        thousands = re.fullmatch(r"([0-9]+)[.,]000", self.text)
+        if thousands:
+            return f"write {thousands[1]} or {thousands[1]}000"
+        if re.fullmatch("[oO0-9]+", self.text):
+            return "write the digit 0"
+        if self.text.endswith("%"):
+            return "write the number itself, not a part of another one"
+        if self.text.endswith(KEPT):
+            return f"the sign {KEPT} is for shifts max, work max and weekends"
+        if not pair and re.fullmatch(r"[0-9]+[.,][0-9]+", self.text):
+            return "shifts are counted, not hours"
+        number = f"write {about(self.text) or 'a number such as 2'}"
+        return (
+            f"{number}, or {pair}"
+            if pair
+            else f"{number}{'' if re.search('[0-9]', self.text) else empty}"
+        )
+
+    @property
+    def key(self) -> str:
+        """The name that its text is, in small letters: names differ in more than that."""
+        return self.text.replace(" ", "_").casefold()
+
+    def new_name(self, kind: str, taken: Collection[str]) -> str:
+        """The cell as a new name of a file, with _ for a blank."""
+        name = self.text.replace(" ", "_")
+        if not name:
+            self.fault(f"the cell is empty: write the name of the {kind}, or delete the row")
+        if any(sign in SIGNS for sign in name):
+            self.fault(
+                f"'{self.text}' has one of the signs {' '.join(SIGNS)}: write the name without it"
+            )
+        if name.casefold() in (other.casefold() for other in taken):
+            self.fault(f"the {kind} '{self.text}' is there already: use another name")
+        return name
+
+    def known(
+        self, kind: str, names: Collection[str], others: Sequence[str] = (), end: str = ""
+    ) -> str:
+        """The name that the cell has, in whatever letters. A fault names the other words that may
+        be in its place too, and what else may help."""
+        wanted = self.key
+        meant = next((name for name in names if name.casefold() == wanted), None)
+        if meant is None:
+            otherwise = f"write one of {quoted([*map(readable, names), *others])}{end}"
+            advice = did_you_mean(
+                self.text.replace(" ", "_"), [*names, *others], otherwise, readable
+            )
+            self.fault(
+                f"'{self.text}' is no {kind}: {advice}"
+                if self.text
+                else f"the cell is empty: write a {kind}, or delete the row"
+            )
+        return meant

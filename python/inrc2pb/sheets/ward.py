@@ -1,0 +1,305 @@
+"""A ward: all that its spreadsheet says, with the days away that verbs have written."""
+
+import re
+from dataclasses import dataclass, replace
+from functools import cached_property
+from pathlib import Path
+from typing import Dict, FrozenSet, Iterable, Iterator, List, Mapping, Optional, Sequence, Tuple
+
+from ..judging.absences import NO_SKILL, TooMany, with_requests
+from ..judging.demand import demand_warnings, supply_warnings
+from ..judging.leave import Counted, counted, credited
+from ..judging.limits import with_given
+from ..judging.odd_values import (
+    Reach,
+    Warned,
+    history_warnings,
+    reach_of,
+    scenario_warnings,
+    week_warnings,
+)
+from ..week.dates import PlanDays, Times
+from ..week.facts import Claim, DayAway, facts_text, reasons_text
+from ..week.faults import FileFault, FileFaults, Gathering
+from ..week.files import history_text, scenario_text, solution_text, week_text
+from ..week.records import (
+    WEEK_DAYS,
+    Cell,
+    History,
+    NurseDay,
+    Scenario,
+    Solution,
+    WeekData,
+    in_plan,
+    in_week,
+)
+from ..week.slots import MAX_NUMBER
+from .odd_tables import book_warnings, skill_warnings, ward_warnings
+from .plan_days import Days, plan_warnings, read_days, week_of_row_warnings
+from .plan_sheets import (
+    COUNTED,
+    NOT_EMPLOYED,
+    WeekSheet,
+    check_held,
+    held_warnings,
+    read_needs,
+    read_weeks,
+)
+from .sheet_cells import tidy
+from .sheet_facts import claims_of, look_warnings, with_part_contracts
+from .sheet_files import Book, read_book
+from .ward_sheets import WardTables, read_ward, shift_times, table_of
+from .week_rows import WeekRow, week_rows
+from .written_days import DayWord, lost_shifts, with_written
+
+
+@dataclass(frozen=True)
+class Ward:
+    """What the spreadsheet says now, with the days away that verbs have written."""
+
+    # What is odd in the spreadsheet, and what plans can reach.
+    warnings: Sequence[str]
+    reach: Reach
+    days: PlanDays
+    # The contracts, nurses and shift types, with the parts of contracts that count, and the history
+    # without days away.
+    scenario: Scenario
+    past: History
+    # The absences and the limits that hold, as facts; the needs and wishes of each week; and the
+    # shifts that are fixed.
+    claims: Tuple[Claim, ...]
+    weeks: Tuple[WeekData, ...]
+    held: Tuple[Cell, ...]
+    # Why nurses are away, the days off that were promised, and as what days away count.
+    reasons: Mapping[NurseDay, str]
+    promised: FrozenSet[NurseDay]
+    counted: Counted
+    times: Mapping[str, Times]
+    # The days whose needs have numbers of their own, as bank holidays have, and the rows of the
+    # needs that have a week.
+    holidays: FrozenSet[int]
+    week_rows: Sequence[WeekRow]
+    # The nurse of each older name, which is in small letters.
+    was: Mapping[str, str]
+    book: Book
+    # The shifts that nurses may not have at the end, since the next period hangs on the wall.
+    border: Tuple[Claim, ...] = ()
+
+    def with_absences(self, absences: Sequence[DayWord]) -> "Ward":
+        """The ward of the same spreadsheet with other days away that verbs have written."""
+        ward = ward_of(self.book, self.scenario.name, absences, period=self.days)
+        return ward.with_border(self.border)
+
+    def with_border(self, border: Tuple[Claim, ...]) -> "Ward":
+        """The same with these shifts that nurses may not have at the end."""
+        claims = (claim for claim in self.claims if claim not in self.border)
+        return replace(self, claims=(*claims, *border), border=border)
+
+    @cached_property
+    def texts(self) -> Dict[str, str]:
+        """The texts of the ward's files by their names, for `inrc2pb` and for people."""
+        return self.texts_of([self.given(number) for number in range(len(self.weeks))])
+
+    def texts_of(self, weeks: Sequence[WeekData]) -> Dict[str, str]:
+        """The same with these data of the weeks."""
+        name = self.scenario.name
+        why = {
+            DayAway(day // WEEK_DAYS + 1, nurse, day % WEEK_DAYS): word
+            for (nurse, day), word in self.reasons.items()
+        }
+        texts = {
+            "ward.txt": scenario_text(self.scenario),
+            "history-0.txt": history_text(credited(self.past, self.counted)),
+            "facts.txt": facts_text(name, self.claims),
+            "reasons.txt": reasons_text(name, why),
+        }
+        for number, week in enumerate(weeks):
+            held = tuple(in_week(self.held, number))
+            texts[f"week-{number}.txt"] = week_text(week)
+            texts[f"fix-{number}.txt"] = solution_text(Solution(number, name, held))
+        return texts
+
+    def with_requests(self) -> List[WeekData]:
+        """The data of the weeks with absences as requests. Raises FileFault if these are too
+        many."""
+        weeks = []
+        for number in range(len(self.weeks)):
+            try:
+                data = with_requests(self.scenario, self.given(number), ()).data
+            except TooMany as fault:
+                where = f"sheet plan, {self.days.week_text(number)}"
+                raise FileFault(self.book.path, 0, f"{where}: {fault}: {NO_SKILL}") from fault
+            weeks.append(data)
+        return weeks
+
+    def given(self, number: int) -> WeekData:
+        """The data of a week, with its absences and limits."""
+        return with_given(self.scenario, self.weeks[number], self.claims, number)
+
+    @property
+    def credit(self) -> Mapping[str, int]:
+        """The shifts as which the days away of each nurse count in the whole period."""
+        return self.counted.shifts
+
+    @cached_property
+    def leaving(self) -> Dict[str, int]:
+        """The day from which each nurse is gone to the end of the plan, if there is one."""
+        gone = {place for place, word in self.reasons.items() if word in NOT_EMPLOYED}
+        total = self.days.total
+        leaving: Dict[str, int] = {}
+        for nurse in dict.fromkeys(nurse for nurse, _ in sorted(gone)):
+            first = total
+            while NurseDay(nurse, first - 1) in gone:
+                first -= 1
+            if 0 < first < total:
+                leaving[nurse] = first
+        return leaving
+
+    def name_now(self, nurse: str) -> str:
+        """The name that a nurse has now, by one that she had in an older plan."""
+        return self.was.get(nurse.casefold(), nurse)
+
+    def knows(self, cell: Cell) -> bool:
+        """Whether the ward has the names of a shift."""
+        scenario = self.scenario
+        return (
+            cell.nurse in scenario.nurses
+            and cell.shift in scenario.shift_types
+            and cell.skill in scenario.skills
+        )
+
+
+def ward_name(path: Path) -> str:
+    """A name for the ward, from that of the file."""
+    return re.sub("[(),= ]", "_", tidy(path.resolve().stem)) or "ward"
+
+
+def read_sheet(path: Path, name: Optional[str] = None, absences: Sequence[DayWord] = ()) -> Ward:
+    """The ward of a spreadsheet, which has this name, if it has one, with these days away in its
+    plan. Raises FileFaults if sheets have mistakes, or more than files can have."""
+    return ward_of(read_book(path), name or ward_name(path), absences)
+
+
+def ward_of(
+    book: Book,
+    name: str,
+    absences: Sequence[DayWord] = (),
+    reasons: Sequence[str] = COUNTED,
+    period: Optional[PlanDays] = None,
+) -> Ward:
+    """The ward of a period of a spreadsheet that was read, or of all its days. Absences for these
+    reasons count as work, illnesses as the shifts that they have taken from plans on the wall.
+    Raises FileFaults if sheets have mistakes, or more than files can have."""
+    written = with_written(book, days_of(book, period), absences)
+    days = read_days(written, period)
+    with Gathering() as faults:
+        tables = read_ward(written, name, days.weeks, faults)
+        sheets = read_weeks(written, tables, days, faults)
+    check_held(tables, sheets)
+    away = _in_plan(sheet.reasons for sheet in sheets)
+    as_shifts = counted(tables.scenario, away, reasons, lost_shifts(absences))
+    tables = with_part_contracts(tables, sheets)
+    claims = _claims(book, tables, credited(tables.history, as_shifts), sheets)
+    ward = Ward(
+        warnings=(),
+        reach=Reach.ALL,
+        days=days.plan_days,
+        scenario=tables.scenario,
+        past=tables.history,
+        claims=claims,
+        weeks=tuple(WeekData(name, sheet.requirements, tuple(sheet.wishes)) for sheet in sheets),
+        held=in_plan([held.row for held in sheet.held] for sheet in sheets),
+        reasons=away,
+        promised=frozenset(_in_plan(dict.fromkeys(sheet.promised, "") for sheet in sheets)),
+        counted=as_shifts,
+        times=shift_times(written),
+        holidays=_holidays(sheets),
+        week_rows=week_rows(written, days),
+        was=tables.was,
+        book=book,
+    )
+    odd, reach = _odd_weeks(ward)
+    warnings = [*_odd_sheets(written, days, tables, sheets), *odd]
+    return replace(ward, warnings=warnings, reach=reach)
+
+
+def _in_plan(weeks: Iterable[Mapping[Tuple[str, int], str]]) -> Dict[NurseDay, str]:
+    """The words of nurses' days of the plan, by those of each week."""
+    return {
+        NurseDay(nurse, WEEK_DAYS * number + day): word
+        for number, week in enumerate(weeks)
+        for (nurse, day), word in week.items()
+    }
+
+
+def _holidays(sheets: Sequence[WeekSheet]) -> FrozenSet[int]:
+    """The days whose needs have numbers of their own, in weeks of which not all days have."""
+    return frozenset(
+        WEEK_DAYS * number + day
+        for number, sheet in enumerate(sheets)
+        if len(sheet.holidays) < WEEK_DAYS
+        for day in sheet.holidays
+    )
+
+
+def _claims(
+    book: Book, tables: WardTables, history: History, sheets: List[WeekSheet]
+) -> Tuple[Claim, ...]:
+    """The absences and limits as facts. Raises FileFault if they are more than a file can have."""
+    claims = claims_of(tables, history, sheets)
+    if len(claims) > MAX_NUMBER:
+        most = f"and a file {MAX_NUMBER} facts at most: {NO_SKILL}"
+        raise FileFault(
+            book.path, 0, f"sheets nurses and plan: they have {len(claims)} days away, {most}"
+        )
+    return tuple(claims)
+
+
+def _odd_sheets(
+    book: Book, days: Days, tables: WardTables, sheets: List[WeekSheet]
+) -> Iterator[str]:
+    """What is odd in sheets."""
+    for line in scenario_warnings(tables.scenario):
+        yield f"sheet shifts, contracts or nurses: {line}"
+    asked = {place.skill for sheet in sheets for place in sheet.requirements}
+    for line in (*history_warnings(tables.history), *skill_warnings(tables, asked)):
+        yield f"sheet nurses: {line}"
+    yield from (*book_warnings(book), *look_warnings(book, days), *ward_warnings(tables))
+    for line in (*plan_warnings(days, tables.scenario), *held_warnings(tables, sheets, days)):
+        yield f"sheet plan: {line}"
+    for line in week_of_row_warnings(table_of(book, "needs"), days):
+        yield f"sheet needs, {line}"
+
+
+def _odd_weeks(ward: Ward) -> Tuple[List[str], Reach]:
+    """What is odd in what weeks need, and what plans can reach."""
+    history = credited(ward.past, ward.counted)
+    datas = [ward.given(number) for number in range(len(ward.weeks))]
+    odd: Dict[Warned, List[int]] = {}
+    for number, data in enumerate(datas):
+        past = None if number else history
+        paid = [ward.counted.of_week(later) for later in range(number, len(datas))]
+        for line in (
+            *week_warnings(ward.scenario, data),
+            *demand_warnings(ward.scenario, past, data, paid),
+        ):
+            odd.setdefault(line, []).append(number)
+    supply = list(supply_warnings(ward.scenario, history, datas))
+    lines = [
+        f"sheet needs, {ward.days.weeks_text(numbers)}: {line}" for line, numbers in odd.items()
+    ]
+    return [*lines, *(f"sheet needs: {line}" for line in supply)], reach_of([*odd, *supply])
+
+
+def days_of(book: Book, period: Optional[PlanDays] = None) -> Days:
+    """The days of a period of the sheet plan. Raises their faults together with those of the other
+    sheets."""
+    try:
+        return read_days(book, period)
+    except (FileFault, FileFaults) as of_days:
+        with Gathering() as faults:
+            with faults.step():
+                raise of_days
+            ward = read_ward(book, "ward", 1, faults)
+            read_needs(table_of(book, "needs"), ward, None, [], faults)
+        raise

@@ -1,0 +1,186 @@
+"""Tests of a next period that is planned before this one ends."""
+
+import datetime
+import unittest
+
+from test_next_period import PeriodTest
+from test_past import today_is
+from test_plans import MONDAY, TWO_WEEKS
+from ward import HAS_CBC, run
+
+from inrc2pb.plans.plan_files import read_state
+from inrc2pb.plans.store import plan_texts
+from inrc2pb.plans.verb import Event
+from inrc2pb.plans.ward_folder import WardFolder
+from inrc2pb.week.dates import PlanDays
+from inrc2pb.week.records import WEEK_DAYS
+
+NEXT = MONDAY + datetime.timedelta(days=2 * WEEK_DAYS)
+NEXT_FOLDER = f"from-{NEXT}"
+
+
+class CalendarTest(PeriodTest):
+    """December runs, from 30 November on, and January is the period of two weeks after it."""
+
+    def setUp(self):
+        super().setUp()
+        clock_of_test = today_is(2027, 2, 1)
+        clock_of_test.start()
+        self.addCleanup(clock_of_test.stop)
+        self.write_both()
+
+    def write_both(self):
+        """The sheet plan has the days of both periods; wishes of the first one stay."""
+        heads = [str(MONDAY + datetime.timedelta(days=day)) for day in range(4 * WEEK_DAYS)]
+        rows = self.rows["plan"][1:]
+        self.rows["plan"] = [
+            ["nurse", *heads],
+            *(row[:15] + [""] * (29 - len(row[:15])) for row in rows),
+        ]
+        self.write()
+
+    def plan_january(self, cells=TWO_WEEKS):
+        """Writes a plan of the next period, which has these cells."""
+        plan = self.reader().of_dates([str(NEXT)], plans=False).current().with_cells(cells)
+        now = datetime.datetime(2026, 12, 1, 12, 0)
+        WardFolder(self.ward).add("plan", plan_texts(plan, plan.state.record("plan", now)), now)
+
+    def reader(self):
+        return self.verbs()._store
+
+    def january(self):
+        return self.reader().of_dates([str(NEXT)], plans=False).current()
+
+
+class NextBeforeTheEnd(CalendarTest):
+    def test_its_history_is_what_is_planned_until_then(self):
+        # Chen has Night from Friday to Sunday.
+        plan = self.january()
+        self.assertEqual(plan.days, PlanDays(NEXT, 2))
+        past = plan.past.nurses["Chen"]
+        self.assertEqual(
+            (past.last_shift, past.consecutive_shifts, past.assignments), ("Night", 3, 0)
+        )
+        self.assertTrue(plan.state.is_as_planned)
+
+    def test_both_periods_have_pages(self):
+        self.does("page")
+        self.plan_january()
+        printed = self.does("page", str(NEXT))
+        for name in (
+            "roster.html",
+            "wall.html",
+            f"{NEXT_FOLDER}/roster.html",
+            f"{NEXT_FOLDER}/wall.html",
+        ):
+            self.assertTrue((self.ward / name).exists(), name)
+            self.assertIn(name, printed)
+        self.assertIn("27 Dec", (self.ward / NEXT_FOLDER / "wall.html").read_text())
+        self.assertNotIn("14 Dec", (self.ward / "wall.html").read_text())
+        # Sums of all periods count what is planned until then.
+        self.assertEqual(self.sums(f"{NEXT_FOLDER}/roster.html")["Grace"][5:7], ["20", "170"])
+        self.does("undo")
+        self.assertFalse((self.ward / NEXT_FOLDER / "wall.html").exists())
+        self.does("undo")
+        self.assertFalse((self.ward / NEXT_FOLDER).exists())
+
+    def test_verbs_take_days_of_both_periods(self):
+        self.plan_january()
+        self.does("set", "Grace", "16.12.", "off", "--do")
+        self.assertEqual(read_state(self.last()).days.monday, NEXT)
+        self.assertEqual([one.day for one in read_state(self.last()).set_days], [2])
+        self.does("set", "Grace", "2.12.", "off", "--do")
+        self.assertEqual(read_state(self.last()).days.monday, MONDAY)
+        # Both hold, and undo takes them back one after another.
+        self.assertEqual(len(self.january().state.set_days), 1)
+        self.does("undo")
+        self.does("undo")
+        self.assertEqual(len(self.january().state.set_days), 0)
+        self.assertIn("Mon 14 Dec", run("plan", self.ward, "swap", "Grace", "14.12.")[1])
+
+    def test_no_shift_comes_before_one_of_january_that_may_not_follow_it(self):
+        # Bruno works Day on Monday 14 December, which may not follow Night.
+        plan = self.reader().current()
+        self.assertFalse(any(one.nurse == "Bruno" and one.day == 13 for one in plan.absences))
+        self.plan_january()
+        plan = self.reader().current()
+        held = {one.shift for one in plan.absences if (one.nurse, one.day) == ("Bruno", 13)}
+        self.assertTrue({"Night", "Late"} & held)
+        self.assertNotIn("Day", held)
+        status, printed, _ = run("plan", self.ward, "set", "Bruno", "13.12.", "Night", "--do")
+        self.assertEqual(status, 6, printed)
+        self.assertIn("not possible", printed)
+
+    def test_the_end_of_december(self):
+        self.plan_january()
+        self.does("over")
+        printed = self.does("over", "Bruno", "13.12.", "Night")
+        self.assertIn("and with it the period is over: the plan goes on from Mon 14 Dec\n", printed)
+        self.assertIn("Bruno may not work Day on Mon after Night on the Sunday before\n", printed)
+        plan = self.reader().current()
+        self.assertEqual((plan.days.monday, plan.past.nurses["Bruno"].last_shift), (NEXT, "Night"))
+        self.assertFalse((self.ward / NEXT_FOLDER).exists())
+        self.assertIn("14 Dec", (self.ward / "roster.html").read_text())
+        # The columns of December may go.
+        self.write_next(NEXT)
+        self.assertEqual(self.reader().current().cells, plan.cells)
+        self.does("over")
+        self.assertEqual(read_state(self.last()).open_week, 1)
+
+    def test_a_correction_of_december_reaches_january(self):
+        self.plan_january()
+        self.does("over")
+        self.does("over")
+        self.does("over", "Chen", "13.12.", "off")
+        self.assertIsNone(self.reader().current().past.nurses["Chen"].last_shift)
+
+    def test_needs_of_a_week_are_of_one_period(self):
+        row = ["", "Day", "Nurse", *[""] * 4, "1", "", ""]
+        self.rows["needs"] += [["2026-12-18", *row[1:]], ["2", *row[1:]]]
+        self.write()
+        self.plan_january()
+        self.assertNotIn("counts for no week", run("plan", self.ward, "check")[1])
+        self.assertEqual(self.january().ward.holidays, {4})
+        self.assertEqual(self.reader().current().ward.holidays, {11})
+
+    def test_planned_days_without_a_column_are_a_mistake(self):
+        self.plan_january()
+        self.rows["plan"] = [row[:15] for row in self.rows["plan"]]
+        self.write()
+        for verb in ("check", "page", "over"):
+            status, _, said = run("plan", self.ward, verb)
+            self.assertEqual(status, 1)
+            self.assertIn(
+                "the plan has 2 weeks from 2026-12-14 on, and the sheet plan has other", said
+            )
+
+    def test_the_first_day_of_a_verb_names_the_period(self):
+        for words, wanted in (
+            ("Chen 14.12.", NEXT),
+            ("Chen 14 Dec off since 2.12.", NEXT),
+            ("Chen Fri off trip 14.12.", MONDAY),
+            ("Mona 2026-12-14", NEXT),
+            ("Chen 2.12. off trip 14.12.", MONDAY),
+            ("Chen", MONDAY),
+        ):
+            plan = self.reader().of_dates(words.split(), plans=False).current()
+            self.assertEqual(plan.days.monday, wanted, words)
+
+    def test_a_day_that_is_in_no_period(self):
+        status, _, said = run("plan", self.ward, "ill", "Chen", "2027-03-01")
+        self.assertEqual(status, 1)
+        self.assertIn("is not in this plan", said)
+
+    @unittest.skipUnless(HAS_CBC, "cbc is not installed")
+    def test_plan_takes_the_first_period_without_a_plan(self):
+        said = self.verbs().done(Event("plan", seconds=5))
+        self.assertEqual(said.plan.days.monday, NEXT)
+        self.assertIn("This holds if the period before it ends as planned.", said.lines())
+        first = {cell.nurse: cell.shift for cell in said.plan.cells if cell.day == 0}
+        self.assertNotIn(first.get("Chen"), ("Day", "Late"))
+        again = self.verbs().done(Event("plan", seconds=5))
+        self.assertEqual(again.plan.days.monday, MONDAY)
+
+
+if __name__ == "__main__":
+    unittest.main()

@@ -1,0 +1,240 @@
+"""Tests of corrections of what was worked, of the clock at the end of a week, and of the table of
+what was worked."""
+
+import csv
+import datetime
+import shutil
+import unittest
+from pathlib import Path
+from unittest import mock
+
+from test_next_period import PeriodTest
+from test_plans import MONDAY, TWO_WEEKS
+from ward import clock, run
+
+from inrc2pb.plans.plan_files import read_state
+from inrc2pb.plans.verb import Event
+from inrc2pb.week.records import WEEK_DAYS
+
+OLDER = Path(__file__).resolve().parents[1] / "data" / "older_version" / "plans"
+NEXT_MONDAY = MONDAY + datetime.timedelta(days=2 * WEEK_DAYS)
+
+
+def today_is(year, month, day):
+    """The clock says this date."""
+    return mock.patch.object(clock, "today", lambda: datetime.date(year, month, day))
+
+
+class PastTest(PeriodTest):
+    """All weeks have ended, less than twelve months ago."""
+
+    def setUp(self):
+        super().setUp()
+        clock_of_test = today_is(2027, 2, 1)
+        clock_of_test.start()
+        self.addCleanup(clock_of_test.stop)
+
+
+class Corrected(PastTest):
+    def table(self):
+        """The rows of the table of what was worked, without the heads."""
+        with open(self.ward / "tables" / "worked.csv", newline="", encoding="utf-8") as file:
+            return [tuple(row) for row in csv.reader(file)][1:]
+
+    def begin_next(self):
+        """Ends the period, and plans the next one."""
+        self.end_period()
+        self.write_next(NEXT_MONDAY)
+        self.plan_next()
+
+    def test_a_day_of_a_week_that_is_over(self):
+        self.does("over")
+        before = read_state(self.last())
+        printed = self.does("over", "Finn", "4.12.", "off,", "Grace", "2.12.", "ill")
+        self.assertIn("Finn, Fri 4 Dec: off instead of Late Nurse\n", printed)
+        self.assertIn("Grace, Wed 2 Dec: ill instead of Day Nurse\n", printed)
+        self.assertIn("Fri Late Nurse has 0 nurses and needs at least 1\n", printed)
+        self.assertIn("this corrects week 1 (calendar week 49): no week ends\n", printed)
+        now = read_state(self.last())
+        gone = {cell for cell in before.cells if cell[:2] in (("Finn", 4), ("Grace", 2))}
+        self.assertEqual(len(gone), 2)
+        self.assertEqual((set(now.cells), now.open_week), (set(before.cells) - gone, 1))
+        # The page has the new rows, and undo brings the old ones back.
+        page = (self.ward / "worked-2026-11-30.html").read_text()
+        self.assertIn('<span class="away">ill</span>', page)
+        self.does("undo")
+        self.assertNotIn(
+            '<span class="away">ill</span>', (self.ward / "worked-2026-11-30.html").read_text()
+        )
+        self.assertEqual(read_state(self.last()).cells, before.cells)
+
+    def test_what_follows_is_judged_again(self):
+        self.does("over")
+        printed = self.does("over", "Bruno", "6.12.", "Night")
+        self.assertIn("Bruno may not work Day on Mon after Night on the Sunday before\n", printed)
+        self.assertIn("plan again, from Mon 7 Dec on\n", printed)
+
+    def test_corrections_of_the_week_that_ends_and_of_one_before_end_it(self):
+        self.does("over")
+        printed = self.does("over", "Finn", "4.12.", "off,", "Grace", "7.12.", "off")
+        self.assertIn("and with it the period is over\n", printed)
+        state = read_state(self.last())
+        self.assertEqual(state.open_week, 2)
+        works = {cell[:2] for cell in state.cells}
+        self.assertFalse(works & {("Finn", 4), ("Grace", 7)})
+
+    def test_a_period_that_is_over_before_the_next_one_is_planned(self):
+        # Chen has Night on the last Sunday.
+        self.end_period()
+        printed = self.does("over", "Chen", "13.12.", "off")
+        self.assertIn("Chen, Sun 13 Dec: off instead of Night Nurse\n", printed)
+        self.assertIn("this corrects week 2 (calendar week 50): no week ends\n", printed)
+        self.write_next(NEXT_MONDAY)
+        self.assertNotIn("Night on Sunday: Chen", run("plan", self.ward, "check")[1])
+        self.does("undo")
+        self.assertIn("Night on Sunday: Chen", run("plan", self.ward, "check")[1])
+
+    def test_a_period_that_is_over_while_the_next_one_runs(self):
+        self.begin_next()
+        self.does("page")
+        before = self.sums("roster.html")
+        printed = self.does("over", "Bruno", "13.12.", "Night")
+        self.assertIn("Bruno, Sun 13 Dec: Night Nurse instead of off\n", printed)
+        self.assertIn("Bruno may not work Day on Mon after Night on the Sunday before\n", printed)
+        self.assertIn("plan again, from Mon 14 Dec on\n", printed)
+        now = self.sums("roster.html")
+        self.assertEqual(int(now["Bruno"][5]), int(before["Bruno"][5]) + 1)
+        plan = self.verbs().current()
+        self.assertEqual(
+            (plan.days.monday, plan.past.nurses["Bruno"].last_shift), (NEXT_MONDAY, "Night")
+        )
+        self.assertIn("worked-2026-11-30.html", printed)
+        self.does("undo")
+        self.assertEqual(self.sums("roster.html"), before)
+        self.assertIsNone(self.verbs().current().past.nurses["Bruno"].last_shift)
+
+    def test_only_the_last_twelve_months(self):
+        self.begin_next()
+        with today_is(2027, 12, 6):
+            self.does("over", "Chen", "6.12.2026", "off")
+        with today_is(2027, 12, 7):
+            status, _, said = run("plan", self.ward, "over", "Chen", "5.12.2026", "off")
+        self.assertEqual(status, 1)
+        self.assertIn("week 1 (calendar week 49), to 2026-12-06, is more than twelve months", said)
+
+    def test_a_day_that_no_period_has(self):
+        self.begin_next()
+        status, _, said = run("plan", self.ward, "over", "Chen", "2026-10-01", "off")
+        self.assertEqual(status, 1)
+        self.assertIn("'2026-10-01' is not in this plan", said)
+
+    def test_the_table_of_what_was_worked(self):
+        self.does("page")
+        self.assertFalse((self.ward / "tables").exists())
+        self.does(
+            "over", "Finn", "Fri", "off,", "Grace", "Wed", "ill,", "Amara", "Sun", "Day/Nurse"
+        )
+        first = {(cell.nurse, cell.day): cell for cell in TWO_WEEKS if cell.day < WEEK_DAYS}
+        wanted = {
+            (nurse, str(MONDAY + datetime.timedelta(day)), cell.shift, cell.skill, cell.shift)
+            for (nurse, day), cell in first.items()
+        }
+        friday, wednesday, sunday = (str(MONDAY + datetime.timedelta(day)) for day in (4, 2, 6))
+        wanted -= {("Finn", friday, "Late", "Nurse", "Late")}
+        wanted |= {("Finn", friday, "", "", "Late")}
+        wanted -= {("Grace", wednesday, "Day", "Nurse", "Day")}
+        wanted |= {("Grace", wednesday, "ill", "", "Day")}
+        was = first.get(("Amara", 6))
+        wanted = {row for row in wanted if row[:2] != ("Amara", sunday)}
+        wanted |= {("Amara", sunday, "Day", "Nurse", was.shift if was else "")}
+        rows = self.table()
+        self.assertEqual((set(rows), len(rows)), (wanted, len(wanted)))
+        self.does("undo")
+        self.assertFalse((self.ward / "tables" / "worked.csv").exists())
+
+    def test_the_table_has_all_periods_and_is_never_read(self):
+        self.begin_next()
+        self.does("over")
+        rows = self.table()
+        self.assertEqual(len(rows), 3 * len([cell for cell in TWO_WEEKS if cell.day < WEEK_DAYS]))
+        self.assertEqual([row[1] for row in rows], sorted(row[1] for row in rows))
+        (self.ward / "tables" / "worked.csv").write_text("nurse,contract\n=1+1,\n")
+        self.does("over")
+        self.assertGreater(len(self.table()), len(rows))
+
+
+class Clock(PeriodTest):
+    SAYS = "week 1 (calendar week 49) has not ended: today is {}, before Sun 6 Dec ends\n"
+
+    def test_a_week_that_has_not_ended_asks_first(self):
+        for day, text in ((2, "Wed 2 Dec"), (6, "Sun 6 Dec")):
+            with today_is(2026, 12, day):
+                status, printed, _ = run("plan", self.ward, "over", "Grace", "Mon", "off")
+            self.assertEqual(status, 6)
+            self.assertIn(self.SAYS.format(text), printed)
+            self.assertIn("nothing is written: type it again with --do\n", printed)
+        self.assertEqual(read_state(self.last()).open_week, 0)
+        with today_is(2026, 12, 2):
+            self.does("over", "Grace", "Mon", "off", "--do")
+        self.assertEqual(read_state(self.last()).open_week, 1)
+
+    def test_a_week_that_has_ended_does_not(self):
+        with today_is(2026, 12, 7):
+            self.does("over")
+        self.assertEqual(read_state(self.last()).open_week, 1)
+
+    def test_the_page_asks_once(self):
+        with today_is(2026, 12, 2):
+            asked = self.verbs().asked(Event("over")).question()
+            self.assertIn(self.SAYS.format("Wed 2 Dec").strip(), asked)
+            self.assertTrue(self.verbs().done(Event("over", on_page=True)).is_written)
+
+
+class OlderVersion(PastTest):
+    """A folder whose period an older version has ended: Grace was off on the last Thursday, and ill on
+    the last Friday, and only the history says so."""
+
+    def setUp(self):
+        super().setUp()
+        shutil.rmtree(self.ward / "plans")
+        shutil.copytree(OLDER, self.ward / "plans")
+        self.write_next(NEXT_MONDAY)
+
+    def kept(self):
+        return {
+            path.relative_to(self.ward): path.read_bytes()
+            for path in (self.ward / "plans").rglob("*")
+            if path.is_file() and path.name != "lock"
+        }
+
+    def test_its_period_goes_on(self):
+        before = self.kept()
+        printed = run("plan", self.ward, "check")[1]
+        self.assertIn("Night on Sunday: Chen for 3 days", printed)
+        self.plan_next()
+        self.does("page")
+        # The last week is as it was planned, as no folder has it as it was worked.
+        self.assertEqual(self.sums("roster.html")["Grace"][5:7], ["20", "170"])
+        self.assertEqual(self.verbs().current().past.nurses["Grace"].days_off, 4)
+        now = self.kept()
+        self.assertEqual({path: now[path] for path in before}, before)
+
+    def test_its_weeks_can_be_corrected(self):
+        self.plan_next()
+        printed = self.does("over", "Grace", "10.12.", "off,", "Grace", "11.12.", "ill")
+        self.assertIn("Grace, Thu 10 Dec: off instead of Day Nurse\n", printed)
+        self.does("page")
+        self.assertEqual(self.sums("roster.html")["Grace"][5:7], ["18", "153"])
+        self.does("over", "Chen", "13.12.", "off")
+        self.assertIsNone(self.verbs().current().past.nurses["Chen"].last_shift)
+
+    def test_a_plan_of_now_is_no_plan_of_it(self):
+        # The older version refuses a record with a name that it does not know.
+        self.plan_next()
+        self.assertIn('"period": 1', (self.last() / "plan.json").read_text())
+        for path in OLDER.glob("*/plan.json"):
+            self.assertNotIn('"period"', path.read_text())
+
+
+if __name__ == "__main__":
+    unittest.main()
