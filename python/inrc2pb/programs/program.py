@@ -15,7 +15,7 @@ from ..week.faults import ProgramFault
 from ..week.soft_rules import SOFT_RULES
 from .processes import Processes
 
-# The exit statuses of `inrc2pb`, which README.md explains, and the one with which a shell reports
+# The exit statuses of `inrc2pb`, which docs/answers.md explains, and the one with which a shell reports
 # that there is no program.
 FAULT = 1
 READ_OR_WRITE = 3
