@@ -57,16 +57,18 @@ module _ {F : Type 0} (port : Ghosts F) where
         AreNewInputs at inputs files × IsNewIfNamed port at answer file
     answer_opened answer files file asked ends =
         let all = went ends in
-        let given = went all.4 in
-        (subst (AreNewInputs at inputs) (sym (ap (λ (p : OpenInputs F × Option F). p.0) given.4.1)) (inputs_opened all.0 all.1 all.3),
-        subst (IsNewIfNamed port at answer) (sym (ap (λ (p : OpenInputs F × Option F). p.1) given.4.1))
-        (new_if_named port at answer given.0 given.1 given.3))
+        let given = went all.4 in (
+          subst (AreNewInputs at inputs) (sym (ap (λ (p : OpenInputs F × Option F). p.0) given.4.1)) (inputs_opened all.0 all.1 all.3),
+          subst (IsNewIfNamed port at answer) (sym (ap (λ (p : OpenInputs F × Option F). p.1) given.4.1))
+              (new_if_named port at answer given.0 given.1 given.3),
+        )
 
     -- the inputs, and then the roster
     pub roster_opened : {X : Type 0} (from : String X) (files : OpenInputs F) (file : F) (asked : List Path) →
         (open_with_roster port inputs (string_bytes from)).ends at asked (Ok (files, file)) → AreNewInputs at inputs files × IsNewAt port at from file
     roster_opened from files file asked ends =
         let all = went ends in
-        let given = went all.4 in
-        (subst (AreNewInputs at inputs) (sym (ap (λ (p : OpenInputs F × F). p.0) given.4.1)) (inputs_opened all.0 all.1 all.3),
-        subst (IsNewAt port at from) (sym (ap (λ (p : OpenInputs F × F). p.1) given.4.1)) given.3.1)
+        let given = went all.4 in (
+          subst (AreNewInputs at inputs) (sym (ap (λ (p : OpenInputs F × F). p.0) given.4.1)) (inputs_opened all.0 all.1 all.3),
+          subst (IsNewAt port at from) (sym (ap (λ (p : OpenInputs F × F). p.1) given.4.1)) given.3.1,
+        )

@@ -12,7 +12,16 @@ use inrc2pb_frame::{OutputFile, Printer};
 
 /// A run of `encode`, `decode` or `extend` for a job writes what follows from the files at the job's paths, reports their first fault,
 /// or does not write the whole of it because memory, a read or a write fails.
-pub fn commands_follow_from_files<O: Opens, A: Source, F: OutputFile, W: Target, H: Printer, E: Printer, X, Z>()
+pub fn commands_follow_from_files<
+    O: Opens,
+    A: Source,
+    F: OutputFile,
+    W: Target,
+    H: Printer,
+    E: Printer,
+    X,
+    Z,
+>()
     ensures { (words : Given X Z) (files_old files_new : O) (input_old input_new : A) (file_old file_new : F)
         (output_old output_new : W) (help_old help_new : H) (errors_old errors_new : E) (status : ℕ) →
         CommandFollowsFromFiles (opener_at O.Opens O.File.Source files_old files_new)
