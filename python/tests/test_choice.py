@@ -132,6 +132,11 @@ class Commands(unittest.TestCase):
         scripts = {step.what for step in check.script_steps(["build.py", "man/inrc2pb.1"])}
         self.assertLessEqual({"tests/pages/build.sh", "tests/program/manual.sh"}, scripts)
 
+    def test_layout_of_changed_crates(self):
+        laws = "crates/rota_rules/src/laws.rt"
+        (step,) = check.crate_steps([laws, "crates/rota_core/must-fail/gone.edit"])
+        self.assertEqual(step.words, ["tests/kit/layout.sh", "rota_rules"])
+
     def test_a_crate_and_those_above_it(self):
         lines = list(check.proof_lines(["crates/rota_rules/src/weights.rt"]))
         commands = [line.partition("#")[0].strip() for line in lines]

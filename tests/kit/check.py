@@ -207,6 +207,15 @@ def script_steps(changed: Sequence[str]) -> Iterator[Step]:
         yield Step(script, [script, str(PROGRAM)], {"BOUND": str(BOUND)})
 
 
+def crate_steps(changed: Sequence[str]) -> Iterator[Step]:
+    """The step for the layout of the crates among the changed files."""
+    crates = sorted(
+        {file.split("/")[1] for file in matching(changed, r"crates/\w+/(src|specs|proofs)/.*")}
+    )
+    if crates:
+        yield Step("layout of crates", ["tests/kit/layout.sh", *crates])
+
+
 # ---- what is not run
 
 
@@ -299,6 +308,7 @@ def check(since: str) -> bool:
         *python_steps(changed, tests),
         *page_steps(changed),
         *rows_steps(changed),
+        *crate_steps(changed),
         *script_steps(changed),
     ]
     passed = True
