@@ -6,24 +6,25 @@ usage: reading.py [--fix]
 
 A contract cites definitions, and these rest on others: a list has the files that are reached
 through the imports of specs/. The first list begins with the meaning of a model and the text of
-one, each other list with the definitions that its contracts cite. A file is in one list only, and
-comes after the files that it rests on. No other file defines a name of the lists. Each definition
-has a comment above it.
+one, the last one with the ends of the programs in their laws, each other list with the definitions
+that its contracts cite. A file is in one list only, and comes after the files that it rests on. No
+other file defines a name of the lists. Each definition has a comment above it.
 
 For two statements the page says which files of the other lists they rest on, by the names in their
 definitions (reach.py), for readers who want no more than these statements.
 
 The page gives the lines of each file; for each list its files, their lines, and the lines of
-definitions (without imports, comments and blank lines); and the number of public definitions in the
-first two lists. After a change of specs/, --fix writes these numbers, and the tables of the files
-that a statement rests on. Rows of files are added, moved and removed by hand, as the complaints say.
+definitions (without imports, comments and blank lines); for each belief the files to read for it;
+and the number of public definitions in the first two lists. All of this --fix writes.
 """
 
 import argparse
 import re
 import sys
+import textwrap
+from itertools import groupby
 from pathlib import Path
-from typing import Dict, Iterable, Iterator, List, Match, NamedTuple, Set, Tuple
+from typing import Dict, Iterable, Iterator, List, NamedTuple, Set, Tuple
 
 sys.path.insert(0, str(Path(__file__).resolve().parent))
 import reach  # noqa: E402
@@ -67,6 +68,20 @@ LISTS = [
     FileList("What a bound means", ["rota_bound_run/specs/Claims.antt"], [], set()),
     FileList("A proved bound", [], [BOUND, BOUND_PERFORM, BOUND_PROGRAM], {EXACT_ANSWERS}),
     FileList("The exact bound", [], [BOUND], set()),
+    FileList(
+        "The laws",
+        ["inrc2pb_program/specs/CommandEnds.antt", "inrc2pb_bound_program/specs/BoundEnds.antt"],
+        [],
+        set(),
+    ),
+]
+# What a reader may want to believe, and the number of the first lists that say it.
+BELIEFS = [
+    ("The model of a week means its rules.", 1),
+    ("`encode` writes such a model, or names the first fault.", 2),
+    ("Each byte of the model is the specified one.", 3),
+    ("`decode` and `extend` keep their promises.", 4),
+    ("All of `inrc2pb` does, from its words to its status.", 5),
 ]
 # Below the heading of a list: the statement for which the page says what else it rests on.
 RESTING = {
@@ -76,17 +91,30 @@ RESTING = {
         "BoundProgramOutcome",
     ),
 }
-# Names that two files of the lists define: these and no more.
-NAMES_OF_TWO = {"EndsInTurn", "check", "◌>>=◌"}
+BOUND_BELIEFS = [
+    (
+        "A bound holds for all rosters, and a given penalty is right.",
+        "list 6, some of 1 and 2",
+        (CRATES / RESTING["What a bound means"][0], RESTING["What a bound means"][1]),
+    ),
+    (
+        "All of `inrc2pb-bound` keeps its promise.",
+        "lists 6 to 8, some of 1 to 5",
+        (CRATES / RESTING["A proved bound"][0], RESTING["A proved bound"][1]),
+    ),
+]
+COLUMNS = 140
+# Names that two files define, one of them in the lists: these and no more.
+NAMES_OF_TWO = {"EndsInTurn", "answer_in", "check", "roster_in", "week_in", "◌>>=◌"}
 USE = re.compile(
     r"(?m)^ *(?:pub )?(?:ghost )?use Rattle\.(\w+)\.specs\.([\w.]+?)(?:\.\{([^}]*)\})?(?: as"
     r" \w+)?;?$"
 )
-ROW = re.compile(r"(?m)^- `([\w/]+\.antt)` \((\d+)\):")
 FIRST_LISTS = 2
 DEFINED = re.compile(r"(The\s+first\s+two\s+lists\s+have\s+)(\d+)(\s+public\s+definitions)")
-TOTAL = re.compile(r"(\d+) files, ([\d,]+) lines, ([\d,]+) of definitions")
-RESTS = re.compile(r"\| of the list \| read \|\n(?:\|.*\n)*\n.*$", re.M)
+COUNTED = re.compile(r"(?ms)^\d+ files, [\d,]+ lines, [\d,]+ of definitions\..*\Z")
+BELIEVED = re.compile(r"(?m)^\| you want to believe \| .*\n(?:\|.*\n)*")
+RESTS = re.compile(r"(?m)^\| of the list \| read \|\n(?:\|.*\n)*")
 NO_DEFINITION = re.compile(r" *(--|(pub )?use |$)")
 DEFINITION = re.compile(r"(?:abbrev |unfoldable )?pub (?!use )(?:record |data )?(\S+)")
 NAME = re.compile(
@@ -161,27 +189,65 @@ def section(page: str, heading: str) -> Tuple[int, int]:
     return begin.end(), end if end >= 0 else len(page)
 
 
-def compare(page: str, heading: str, wanted: List[Path], before: List[Path]) -> Iterator[str]:
-    """The faults of a list of the page."""
-    first, last = section(page, heading)
-    rows = ROW.findall(page[first:last])
-    files = [CRATES / row[0] for row in rows]
-    for file in sorted(set(wanted) - set(files)):
-        yield f"{name(file)}, {length(file)} lines, is missing in the list '{heading}'"
-    for file in files:
-        if file not in wanted:
-            yield f"{name(file)} does not belong in the list '{heading}'"
-    for index, (file, row) in enumerate(zip(files, rows)):
-        if file not in wanted:
-            continue
-        if length(file) != int(row[1]):
-            yield f"{name(file)} has {length(file)} lines, and not {row[1]}"
-        known = set(files[:index]) | set(before)
-        for other, _ in imports(file.read_text(encoding="utf-8")):
-            if other in wanted and other not in known:
-                yield f"{name(file)} comes before {name(other)}, on which it rests"
-    if total(wanted) not in page[first:last]:
-        yield f"the list '{heading}' has {total(wanted)}"
+def in_order(files: List[Path]) -> List[Path]:
+    """The files, each after those that it rests on, and next to others of its crate if it can be."""
+    left = sorted(files)
+    ordered: List[Path] = []
+    while left:
+        ready = [file for file in left if not rests_on_one_of(file, left)]
+        crate = crate_of(ordered[-1]) if ordered else ""
+        ordered.append(min(ready, key=lambda file: (crate_of(file) != crate, ready.index(file))))
+        left.remove(ordered[-1])
+    return ordered
+
+
+def rests_on_one_of(file: Path, others: List[Path]) -> bool:
+    """Whether the file imports another one of these."""
+    return any(other in others for other, _ in imports(file.read_text(encoding="utf-8")))
+
+
+def crate_of(file: Path) -> str:
+    """The crate of a file."""
+    return file.relative_to(CRATES).parts[0]
+
+
+def rows(files: List[Path]) -> str:
+    """The files of a list in their order, a line for those of a crate that follow each other: each
+    with its path below specs/ and its lines."""
+    lines = []
+    for crate, group in groupby(in_order(files), crate_of):
+        names = (f"{short_name(file)} {length(file)}" for file in group)
+        line = f"- `{crate}`: {', '.join(names)}"
+        lines += textwrap.wrap(line, COLUMNS, subsequent_indent="  ", break_on_hyphens=False)
+    return "\n".join(lines)
+
+
+def short_name(file: Path) -> str:
+    """The path of a file below specs/ of its crate, without its ending."""
+    return "/".join(file.relative_to(CRATES).with_suffix("").parts[2:])
+
+
+def counted(files: List[Path]) -> str:
+    """The counts of a list and its rows, which end its section."""
+    return f"{total(files)}.\n\n{rows(files)}\n"
+
+
+def beliefs() -> str:
+    """The table of what a reader may want to believe, with the files to read for it."""
+    every = [wanted for _, wanted, _ in lists()]
+    needs = [
+        (text, "list 1" if count == 1 else f"lists 1 to {count}", set().union(*every[:count]))
+        for text, count in BELIEFS
+    ]
+    needs += [(text, where, reach.reached([start])) for text, where, start in BOUND_BELIEFS]
+    needs.append(("All of this, and the laws.", f"lists 1 to {len(every)}", set().union(*every)))
+    lines = (f"| {text} | {where} | {files_and_lines(files)} |\n" for text, where, files in needs)
+    return f"| you want to believe | read | files | lines |\n|---|---|---:|---:|\n{''.join(lines)}"
+
+
+def files_and_lines(files: Set[Path]) -> str:
+    """The numbers of these files and of their lines, as two cells of a table."""
+    return f"{len(files)} | {sum(map(length, files)):,}"
 
 
 def named(files: List[Path], among: List[Path]) -> str:
@@ -201,28 +267,15 @@ def files_read(wanted: List[Path], files: Set[Path]) -> str:
 
 
 def rests(heading: str) -> str:
-    """The table of the files of other lists on which the statement of this list rests, and the
-    counts of all of them."""
+    """The table of the files of other lists on which the statement of this list rests."""
     source, definition = RESTING[heading]
     files = reach.reached([(CRATES / source, definition)])
-    rows = [
+    lines = [
         f"| {other} | {files_read(wanted, files)} |\n"
         for other, wanted, _ in lists()
         if other != heading and files & set(wanted)
     ]
-    lines = sum(length(file) for file in files)
-    return (
-        f"| of the list | read |\n|---|---|\n{''.join(rows)}\n"
-        f"With the files of this list these are {len(files)} files, {lines:,} lines."
-    )
-
-
-def compare_rests(page: str) -> Iterator[str]:
-    """The faults of the tables of the files that a statement rests on."""
-    for heading in RESTING:
-        first, last = section(page, heading)
-        if rests(heading) not in page[first:last]:
-            yield f"the list '{heading}' rests on other files, as --fix writes them"
+    return f"| of the list | read |\n|---|---|\n{''.join(lines)}"
 
 
 def uncommented(file: Path) -> Iterator[str]:
@@ -257,18 +310,36 @@ def compare_defined(page: str, files: List[Path]) -> Iterator[str]:
         yield f"the first two lists have {defined(files)} public definitions"
 
 
-def row_with_length(row: Match[str]) -> str:
-    """A row of the page with the lines of its file, or as it was if there is no such file."""
-    file = CRATES / row.group(1)
-    return f"- `{row.group(1)}` ({length(file)}):" if file.exists() else row.group()
-
-
 def fixed(page: str, heading: str, wanted: List[Path]) -> str:
-    """The page with the right counts in a list."""
+    """The page with the right counts and rows in a list."""
     first, last = section(page, heading)
-    text = ROW.sub(row_with_length, page[first:last])
-    text = TOTAL.sub(total(wanted), text, count=1)
+    text = page[first:last].rstrip("\n") + "\n"
+    text = COUNTED.sub(counted(wanted), text)
+    if heading in RESTING:
+        text = RESTS.sub(rests(heading), text, count=1)
     return page[:first] + text + page[last:]
+
+
+def right(page: str) -> str:
+    """The page with all that --fix writes."""
+    every = list(lists())
+    first_files = [file for _, wanted, _ in every[:FIRST_LISTS] for file in wanted]
+    for heading, wanted, _ in every:
+        page = fixed(page, heading, wanted)
+    page = BELIEVED.sub(beliefs(), page, count=1)
+    return DEFINED.sub(rf"\g<1>{defined(first_files)}\g<3>", page)
+
+
+def misses(page: str) -> Iterator[str]:
+    """What --fix needs on the page, and does not find: it would leave the page without it."""
+    for heading, wanted, _ in lists():
+        first, last = section(page, heading)
+        if counted(wanted).strip() not in page[first:last]:
+            yield f"the list '{heading}' has {total(wanted)}, and other rows"
+        if heading in RESTING and rests(heading) not in page[first:last]:
+            yield f"the list '{heading}' rests on other files"
+    if beliefs() not in page:
+        yield "the table of what to believe has other files or lines"
 
 
 def lists() -> Iterator[Tuple[str, List[Path], List[Path]]]:
@@ -285,32 +356,22 @@ def lists() -> Iterator[Tuple[str, List[Path], List[Path]]]:
 
 
 def main() -> int:
-    """Compares, or with --fix writes the counts and then compares; the exit status is 1 if
-    something is wrong."""
+    """Compares, or with --fix writes the lists and then compares; the exit status is 1 if something
+    is wrong."""
     parser = argparse.ArgumentParser(description=(__doc__ or "").split("\n")[0])
-    parser.add_argument("--fix", action="store_true", help="write the numbers on the page")
-    fix = parser.parse_args().fix
+    parser.add_argument("--fix", action="store_true", help="write the lists on the page")
     page = PAGE.read_text(encoding="utf-8")
-    all_lists = list(lists())
-    first_files = [file for _, wanted, _ in all_lists[:FIRST_LISTS] for file in wanted]
-    if fix:
-        for heading, wanted, _ in all_lists:
-            page = fixed(page, heading, wanted)
-        for heading in RESTING:
-            first, last = section(page, heading)
-            text = RESTS.sub(rests(heading), page[first:last], count=1)
-            page = page[:first] + text + page[last:]
-        page = DEFINED.sub(rf"\g<1>{defined(first_files)}\g<3>", page)
+    if parser.parse_args().fix:
+        page = right(page)
         PAGE.write_text(page, encoding="utf-8")
-    wrong = [*compare_defined(page, first_files), *compare_rests(page)]
-    for heading, wanted, before in all_lists:
-        wrong += compare(page, heading, wanted, before)
-        wrong += [line for file in wanted for line in uncommented(file)]
-    every = [file for _, wanted, _ in all_lists for file in wanted]
-    wrong += defined_twice(every)
+    every = [wanted for _, wanted, _ in lists()]
+    files = [file for wanted in every for file in wanted]
+    wrong = [*misses(page), *compare_defined(page, sum(every[:FIRST_LISTS], []))]
+    wrong += [line for file in files for line in uncommented(file)]
+    wrong += defined_twice(files)
     for line in wrong:
         print("FAILED:", line)
-    print(f"{total(every)}, {len(wrong)} failed")
+    print(f"{total(files)}, {len(wrong)} failed")
     return 1 if wrong else 0
 
 
