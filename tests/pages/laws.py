@@ -2,9 +2,9 @@
 """The laws of the crates: public calls without parameters and result, whose contracts are
 statements about definitions.
 
-    tests/pages/laws.py            prints the table of docs/proved.md
+    tests/pages/laws.py            prints the table of docs/promises.md
     tests/pages/laws.py all        prints every law
-    tests/pages/laws.py compare    compares the table of docs/proved.md with the crates, and
+    tests/pages/laws.py compare    compares the table of docs/promises.md with the crates, and
                                    fails if they differ
 
 A row has the name of a law and the first sentence of its comment.
@@ -15,34 +15,16 @@ from pathlib import Path
 from typing import List, NamedTuple
 
 TOP = Path(__file__).resolve().parents[2]
-PAGE = TOP / "docs" / "proved.md"
+PAGE = TOP / "docs" / "promises.md"
 HEAD = "| law | statement |\n|---|---|\n"
 
-# The laws of these files are on the page: the meaning of the model, of the rules' charges, of a
-# lower bound, and of the program's exit statuses. Those that serve others are not: the order and
-# number of terms and variables, and sizes.
+# The laws on the page, which link the rules, the model and a bound. Those that it prints itself, of the
+# programs and their files, are not in its table, nor are those that serve others.
 ON_THE_PAGE = (
-    "rota_judge/src/laws/model_laws.rt",
-    "rota_judge/src/laws/rule_laws.rt",
-    "rota_certificate/src/laws.rt",
-    "rota_bound_run/src/laws.rt",
-    "inrc2pb_program/src/laws.rt",
-    "inrc2pb_bound_program/src/laws.rt",
-)
-NOT_ON_THE_PAGE = (
-    "extension_fails_first_at_first_broken_rule",
-    "constraints_have_rising_terms",
-    "objective_has_rising_terms",
-    "objective_is_small",
-    "variables_are_those_of_the_constraints",
-    "constraints_are_no_objective",
-    "one_cell_a_day_is_at_most_one",
-    "constant_is_sum_of_its_parts",
-    "penalty_is_small",
-    "cells_and_variables_are_inverse",
-    "no_item_lacks_more_than_its_slacks",
-    "held_cells_keep_rules_where_the_model_is_satisfied",
-    "alike_rosters_cost_the_same",
+    "a_period_of_one_week_is_a_week",
+    "certificate_bound_is_sound",
+    "min_objective_is_min_penalty",
+    "held_cells_add_only_that_they_are_true",
 )
 CRATES_OF_TESTS = ("call_tests", "run_tests", "call_report", "who_fits")
 
@@ -73,20 +55,14 @@ def laws() -> List[Law]:
     return found
 
 
-def is_on_page(law: Law) -> bool:
-    return (
-        str(law.file.relative_to(TOP / "crates")) in ON_THE_PAGE and law.name not in NOT_ON_THE_PAGE
-    )
-
-
 def table(chosen: List[Law]) -> str:
     return HEAD + "".join(f"| `{law.name}` | {law.statement} |\n" for law in chosen)
 
 
 def main(words: List[str]) -> int:
     every = laws()
-    on_page = table([law for law in every if is_on_page(law)])
-    gone = set(NOT_ON_THE_PAGE) - {law.name for law in every}
+    on_page = table([law for law in every if law.name in ON_THE_PAGE])
+    gone = set(ON_THE_PAGE) - {law.name for law in every}
     if words == ["compare"]:
         if gone:
             print(f'tests/pages/laws.py names laws that are gone: {", ".join(sorted(gone))}')

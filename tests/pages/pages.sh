@@ -140,7 +140,7 @@ shows_costs() {
     done < "$room/report"
 }
 
-# Code that a page shows is a run of lines of a crate's source or proofs, which are proved.
+# Code that a page shows is a run of lines of a crate's source, definitions or proofs.
 quotes_code() {
     local kind blocks number code
     for kind in rust antt; do
@@ -148,7 +148,7 @@ quotes_code() {
         begins_case "the $kind in $1"
         case $kind in
             rust) code=$(find crates/*/src -name '*.rt' -exec cat {} +) ;;
-            antt) code=$(find crates/*/proofs -name '*.antt' -exec cat {} +) ;;
+            antt) code=$(find crates/*/specs crates/*/proofs -name '*.antt' -exec cat {} +) ;;
         esac
         for number in $(seq "$blocks"); do
             [[ $'\n'$code$'\n' == *$'\n'"$(quote "$1" "$kind" "$number")"$'\n'* ]] ||
@@ -181,7 +181,7 @@ dead_links_are_named
 named_pages_exist
 begins_case 'the questions in tests/pages/questions.txt'
 python3 tests/pages/questions.py > "$room/questions" || complain "$(cat "$room/questions")"
-begins_case 'the laws in docs/proved.md'
+begins_case 'the laws in docs/promises.md'
 python3 tests/pages/laws.py compare > "$room/laws" || complain "$(cat "$room/laws")"
 shows_costs
 finish

@@ -25,7 +25,6 @@ REFERENCES = {
     "docs/DECISIONS.md",
     "docs/answers.md",
     "docs/formats.md",
-    "docs/proved.md",
     "docs/reading.md",
     "docs/trusted.md",
 }
