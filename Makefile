@@ -38,7 +38,7 @@ example: build
 tour: build
 	examples/tour.sh
 
-# Installs cbc from Debian, as root, plans the weeks of docs/solvers.md, and writes its table: takes some minutes.
+# Installs cbc from Debian, as root, plans the weeks of docs/search.md, and writes its table: takes about half an hour.
 solvers: all
 	$(if $(filter 0,$(shell id -u)),,sudo )apt-get install -y coinor-cbc
 	python3 bench/solvers.py

@@ -1,6 +1,6 @@
 #!/usr/bin/env python3
-"""Plans some weeks and periods from nothing, one after another, and writes what was found to
-docs/solvers.md.
+"""Plans some weeks and periods from nothing, one after another, and writes each search to
+docs/search.md, and a row for each kind of them to docs/solvers.md.
 
     bench/solvers.py [--time SECONDS] [--only-print] [NAME ..]
 
@@ -30,10 +30,13 @@ from inrc2pb.programs.program import WeekFiles, penalty_of, run_program  # noqa:
 from inrc2pb.search.bounds import PROOF, find_prover  # noqa: E402
 from inrc2pb.week.faults import ProgramFault  # noqa: E402
 
-PAGE = ROOT / "docs" / "solvers.md"
+PAGE = ROOT / "docs" / "search.md"
+SUMMARY = ROOT / "docs" / "solvers.md"
 SOLVE = ROOT / "python" / "inrc2pb-solve"
 BEGIN = "<!-- measured -->"
 END = "<!-- end of measured -->"
+BEGIN_SUMMARY = "<!-- summed up -->"
+END_SUMMARY = "<!-- end of summed up -->"
 EXAMPLES = ROOT / "examples"
 # Last weeks of planned periods, with the numbers of their files, and the nurses of the large wards.
 LAST_WEEKS = {"last12": 3, "last60": 3, "last120": 3, "second60": 1, "second120": 1}
@@ -55,6 +58,14 @@ PERIODS = {
     "p60w8": (60, 8, 95, 508, 300),
 }
 MONTH_SECONDS = 300
+# The kinds of searches, each with a pattern of their names: the first that fits counts.
+KINDS = {
+    "eight weeks of 16 to 60 nurses": r".*, 8 weeks",
+    "four weeks of 12 to 120 nurses": r"month|.*, 4 weeks",
+    "a week of 100 nurses, 8 shift types and 8 skills": r".* x .*",
+    "a week of 250, 500 and 1000 nurses": r"[0-9]+ nurses",
+    "a week of 5 to 120 nurses": r".*",
+}
 # Linux's number of the option by which a process gets the children of those that end.
 SET_CHILD_SUBREAPER = 36
 
@@ -266,10 +277,45 @@ def table(runs: Dict[str, Run]) -> str:
     return "\n".join(lines)
 
 
-def write_page(text: str) -> None:
-    """Puts the text into the page, between its markers."""
-    before, _, rest = PAGE.read_text().partition(BEGIN)
-    PAGE.write_text(f"{before}{BEGIN}\n\n{text}\n\n{END}{rest.partition(END)[2]}")
+def summary(lines: Sequence[str]) -> str:
+    """A row for each kind of the searches in the lines of a table."""
+    kinds: Dict[str, List[List[str]]] = {kind: [] for kind in reversed(KINDS)}
+    for line in lines:
+        name, *cells = (cell.strip(" `") for cell in line.strip("|").split("|"))
+        kind = next(kind for kind, names in KINDS.items() if re.fullmatch(names, name))
+        kinds[kind].append(cells)
+    head = [
+        "| search | how many | proved the best | seconds of these | gap of the others |",
+        "|---|---:|---:|---:|---:|",
+    ]
+    return "\n".join([*head, *(_of_kind(kind, found) for kind, found in kinds.items() if found)])
+
+
+def _of_kind(kind: str, searches: Sequence[Sequence[str]]) -> str:
+    """The row of the searches of a kind, each with its penalty, its bound, whether it is proved,
+    and its seconds."""
+    seconds = [float(cells[3]) for cells in searches if cells[2] == "yes"]
+    gaps = [
+        100 * (int(cells[0]) - int(cells[1])) / int(cells[0])
+        for cells in searches
+        if cells[2] == "no" and cells[1]
+    ]
+    cells = (len(searches), len(seconds), _range(seconds), _range(gaps, " %"))
+    return f"| {kind} | {' | '.join(map(str, cells))} |"
+
+
+def _range(numbers: Sequence[float], unit: str = "") -> str:
+    """The lowest and the highest of the numbers."""
+    ends = (
+        dict.fromkeys(f"{number:.1f}" for number in (min(numbers), max(numbers))) if numbers else {}
+    )
+    return " to ".join(ends) + unit if ends else ""
+
+
+def write_page(page: Path, begin: str, end: str, text: str) -> None:
+    """Puts the text into a page, between its markers."""
+    before, _, rest = page.read_text().partition(begin)
+    page.write_text(f"{before}{begin}\n\n{text}\n\n{end}{rest.partition(end)[2]}")
 
 
 def main() -> None:
@@ -300,7 +346,8 @@ def main() -> None:
     if given.only_print:
         print(text)
     else:
-        write_page(text)
+        write_page(PAGE, BEGIN, END, text)
+        write_page(SUMMARY, BEGIN_SUMMARY, END_SUMMARY, summary(table(runs).splitlines()[2:]))
 
 
 if __name__ == "__main__":

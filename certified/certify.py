@@ -4,7 +4,7 @@ lower bound, and keeps what is better than before: the rosters and the certifica
 certified/known, and the rest in certified/table.txt.
 
     certified/certify.py [--time SECONDS] [NAME ..]     all instances, or these
-    certified/certify.py --page                         writes the table to docs/benchmark.md
+    certified/certify.py --page                         writes the families to docs/benchmark.md
 
 The programs are out/inrc2pb and out/inrc2pb-bound, or the one that INRC2PB names and the one beside
 it.
@@ -12,6 +12,7 @@ it.
 
 import argparse
 import hashlib
+import itertools
 import re
 import shutil
 import subprocess
@@ -44,6 +45,22 @@ PERIOD_SECONDS = 240.0
 NONE = "none"
 UNKNOWN = "-"
 HEAD = "# name nurses weeks variables constraints sum-of-files sum-of-model best bound seconds"
+# The families of instances by the beginning of their names: how the rest of a name is made, and
+# what is special.
+FAMILIES = {
+    "small": ("N-..", "three shift types, two skills; the first, second or last week of a period"),
+    "first": ("N", "four shift types, four skills; the first week of a period"),
+    "last": ("N", "the same; the last week, in which the totals of the whole period count"),
+    "tight": ("N", "nearly twice the usual demand: most nurses work more than they should"),
+    "full": ("N", "three times the usual demand"),
+    "early": ("N", "`--early`: totals are charged as soon as they are exceeded"),
+    "fix": ("N", "`--fix`: shifts that are held"),
+    "early-fix": ("N", "both"),
+    "wide": ("NxK", "K shift types and K skills"),
+    "large": ("N", "many nurses"),
+    "none": ("N", "no roster exists: two days ask for more head nurses than there are"),
+    "period": ("NxW", "W weeks, 2 to 8, which are planned together"),
+}
 
 
 class Row(NamedTuple):
@@ -187,28 +204,57 @@ def certify(one: Instance, seconds: float) -> Optional[Row]:
         return keep(one, files, plan, time.monotonic() - began)
 
 
+def family_of(row: Row) -> str:
+    """The family of an instance."""
+    return "-".join(itertools.takewhile(str.isalpha, row.name.split("-")))
+
+
+def is_known(row: Row) -> bool:
+    """Whether the best roster is proved the best, or that none exists."""
+    return row.best in (NONE, row.bound)
+
+
 def table(found: Dict[str, Row]) -> str:
-    """The table of the page."""
+    """The table of the page: a row for each family."""
+    families = {
+        name: [row for row in found.values() if family_of(row) == name] for name in FAMILIES
+    }
     lines = [
-        (
-            "| instance | nurses | weeks | variables | constraints | best known | lower bound |"
-            " seconds | sum of the model |"
-        ),
-        "|---|---:|---:|---:|---:|---:|---:|---:|---|",
+        "| name | how many | nurses (N) | variables | constraints | solved | what is special |",
+        "|---|---:|---:|---:|---:|---:|---|",
     ]
-    for row in found.values():
-        best = "none exists" if row.best == NONE else row.best
-        bound = "" if row.bound == NONE else row.bound
-        figures = (
-            f"{row.nurses} | {row.weeks} | {row.variables} | {row.constraints} | {best} | {bound} |"
-            f" {row.seconds}"
-        )
-        lines.append(f"| `{row.name}` | {figures} | `{row.model[:12]}` |")
-    return "\n".join(lines)
+    for name, rows_of_family in families.items():
+        rest, special = FAMILIES[name]
+        cells = [
+            f"`{name}-{rest}`",
+            str(len(rows_of_family)),
+            *(
+                _range([getattr(row, of) for row in rows_of_family])
+                for of in ("nurses", "variables", "constraints")
+            ),
+            str(sum(map(is_known, rows_of_family))),
+            special,
+        ]
+        lines.append(f"| {' | '.join(cells)} |")
+    return "\n".join([*lines, "", *_open_lines(list(found.values()))])
+
+
+def _range(numbers: List[int]) -> str:
+    """The lowest and the highest of the numbers."""
+    return f"{min(numbers)} to {max(numbers)}"
+
+
+def _open_lines(known: List[Row]) -> List[str]:
+    """The table of the instances whose optimum is not known."""
+    return [
+        "| open | best known | lower bound |",
+        "|---|---:|---:|",
+        *(f"| `{row.name}` | {row.best} | {row.bound} |" for row in known if not is_known(row)),
+    ]
 
 
 def write_page(found: Dict[str, Row]) -> None:
-    """Puts the table into the page, between its markers."""
+    """Puts the tables into the page, between its markers."""
     before, _, rest = PAGE.read_text().partition(BEGIN)
     PAGE.write_text(f"{before}{BEGIN}\n\n{table(found)}\n\n{END}{rest.partition(END)[2]}")
 

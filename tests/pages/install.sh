@@ -139,6 +139,7 @@ links_hold
 names_sources
 manual_names_commands
 runs_commands
+follows_page docs/search.md
 follows_page docs/commands.md
 has_line 'Amara Bruno 110'
 if has clasp 3; then

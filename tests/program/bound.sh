@@ -33,7 +33,7 @@ says() {
     run "$1" 0 wanted nothing "${@:3}"
 }
 
-# The optima are in docs/solvers.md.
+# The optima are in docs/search.md.
 proves_optima() {
     "$encoder" decode "${five[@]}" --answer "$examples/n005w4/answers/clasp.txt" --sol "$room/five" > "$room/report" || complain 'no roster'
     says 'five nurses' 'lower bound 320\npenalty 320\noptimal\n' "${five[@]}" "${proof[@]}" --roster five

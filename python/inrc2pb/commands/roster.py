@@ -250,7 +250,7 @@ def _results_options() -> Parser:
             " standard output, in a file of its own."
         ),
         (
-            "docs/solvers.md shows how to run many weeks, on one machine or on several.\n"
+            "bench/README.md shows how to run many weeks, on one machine or on several.\n"
             "Example: inrc2pb-roster results reports/*.txt --joblog jobs.log"
         ),
         "results",

@@ -1,5 +1,6 @@
-"""Tests of what bench/solvers.py measures."""
+"""Tests of what bench/solvers.py measures, and of the pages that show it."""
 
+import re
 import sys
 import unittest
 
@@ -20,6 +21,43 @@ class Measured(HelperTest):
             said.seek(0)
             self.assertEqual(said.read(), "this\n")
         self.assertGreater(seconds, 0.35)
+
+
+class Pages(unittest.TestCase):
+    def test_the_short_table_is_of_the_long_one(self):
+        measured = solvers.PAGE.read_text().split(solvers.BEGIN)[1].split(solvers.END)[0]
+        rows = [line for line in measured.splitlines() if line.startswith("| `")]
+        self.assertGreater(len(rows), 20)
+        self.assertIn(
+            f"{solvers.BEGIN_SUMMARY}\n\n{solvers.summary(rows)}\n\n{solvers.END_SUMMARY}",
+            solvers.SUMMARY.read_text(),
+        )
+
+    def test_a_row_of_each_kind(self):
+        rows = ["| `one` | 20 | 20 | yes | 1.0 |", "| `two` | 40 | 30 | no | 9.0 |"]
+        self.assertEqual(
+            solvers.summary([*rows, "| `9 nurses, 4 weeks` | none |  | no | 3.0 |"]).splitlines()[
+                2:
+            ],
+            [
+                "| a week of 5 to 120 nurses | 2 | 1 | 1.0 | 25.0 % |",
+                "| four weeks of 12 to 120 nurses | 1 | 0 |  |  |",
+            ],
+        )
+
+    def test_the_page_names_each_module_of_the_search_and_its_tests(self):
+        page = solvers.PAGE.read_text()
+        named = set(re.findall(r"`((?:rows|search|solvers|judging)/[a-z_0-9]+(?:\.c)?)`", page))
+        library = ROOT / "python" / "inrc2pb"
+        modules = {
+            f"{folder}/{path.name.removesuffix('.py')}"
+            for folder in ("rows", "search", "solvers")
+            for path in (library / folder).glob("[a-z]*.*")
+        }
+        tests = {name for name in named if "/test_" in name}
+        self.assertEqual(named - tests, modules)
+        for name in tests:
+            self.assertTrue((ROOT / "python" / "tests" / f"{name}.py").exists(), name)
 
 
 if __name__ == "__main__":

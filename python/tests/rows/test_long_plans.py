@@ -144,7 +144,7 @@ class Parts(HelperTest):
         search.begin(all_off(plan), None)
         search.generate(search.clock)
         RowParts(search, [solver, solver.beside(1)]).run(search.clock)
-        # docs/solvers.md has this penalty as the best.
+        # docs/search.md has this penalty as the best.
         self.assertEqual((search.penalty, search.lower_bound), (605, 605))
         self.assertEqual(kept, sorted(set(kept), reverse=True))
 

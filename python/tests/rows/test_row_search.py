@@ -24,7 +24,7 @@ from inrc2pb.judging.runs import NEVER
 from inrc2pb.rows.skills import staffed
 from inrc2pb.rows.week_dives import WeekDives
 
-# The penalties that other solvers proved: docs/solvers.md.
+# The penalties that other solvers proved: docs/search.md.
 OPTIMA = {"n005w4": 320, "last12": 435, "thirty": 605}
 
 

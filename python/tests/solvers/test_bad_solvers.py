@@ -222,9 +222,9 @@ class OwnSolvers(HelperTest):
         )
 
     @unittest.skipUnless(shutil.which("glpsol"), "needs glpsol")
-    def test_the_solver_of_the_page_on_commands(self):
+    def test_the_solver_of_the_page_on_solvers(self):
         command = re.search(
-            '--solver "(glpsol .*)"$', (ROOT / "docs" / "commands.md").read_text(), re.MULTILINE
+            '--solver "(glpsol .*)"$', (ROOT / "docs" / "solvers.md").read_text(), re.MULTILINE
         )[1]
         held = replace(WEEK_FILES, fix=ROSTER)
         outcome = find_solver(command).solve(held, 60, self.folder, Processes())
