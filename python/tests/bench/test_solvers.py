@@ -9,6 +9,12 @@ from ward import ROOT, HelperTest
 sys.path.insert(0, str(ROOT / "bench"))
 import solvers  # noqa: E402
 
+# Searches that README.md names, and its words for their seconds.
+IN_README = {
+    "thirty": ("for 30 nurses in {}", {1: "a second"}),
+    "1000 nurses": ("for 1000 nurses in {}", {7: "seven seconds", 8: "eight seconds"}),
+    "month": ("for four weeks of 30 nurses in {}", {10: "ten", 11: "eleven", 12: "twelve"}),
+}
 BURN = "import time\nwhile time.process_time() < 0.4: pass"
 
 
@@ -23,10 +29,22 @@ class Measured(HelperTest):
         self.assertGreater(seconds, 0.35)
 
 
+def measured_rows():
+    """The rows of the table of searches."""
+    measured = solvers.PAGE.read_text().split(solvers.BEGIN)[1].split(solvers.END)[0]
+    return [line for line in measured.splitlines() if line.startswith("| `")]
+
+
 class Pages(unittest.TestCase):
+    def test_the_readme_has_seconds_of_the_table(self):
+        readme = " ".join((ROOT / "README.md").read_text().split())
+        cells = [[cell.strip(" `") for cell in row.split("|")] for row in measured_rows()]
+        seconds = {row[1]: round(float(row[5])) for row in cells}
+        for name, (words, numbers) in IN_README.items():
+            self.assertIn(words.format(numbers[seconds[name]]), readme)
+
     def test_the_short_table_is_of_the_long_one(self):
-        measured = solvers.PAGE.read_text().split(solvers.BEGIN)[1].split(solvers.END)[0]
-        rows = [line for line in measured.splitlines() if line.startswith("| `")]
+        rows = measured_rows()
         self.assertGreater(len(rows), 20)
         self.assertIn(
             f"{solvers.BEGIN_SUMMARY}\n\n{solvers.summary(rows)}\n\n{solvers.END_SUMMARY}",
