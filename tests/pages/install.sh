@@ -141,6 +141,7 @@ manual_names_commands
 runs_commands
 follows_page docs/search.md
 follows_page docs/commands.md
+follows_page docs/library.md
 has_line 'Amara Bruno 110'
 if has clasp 3; then
     for page in README.md docs/your_ward.md docs/solvers.md; do

@@ -25,6 +25,7 @@ REFERENCES = {
     "docs/DECISIONS.md",
     "docs/answers.md",
     "docs/formats.md",
+    "docs/library.md",
     "docs/reading.md",
     "docs/trusted.md",
 }
