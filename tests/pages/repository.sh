@@ -10,10 +10,12 @@
 
 version_is_in_preparation() {
     local version
-    begins_case 'the version in CHANGELOG.md and python/pyproject.toml'
+    begins_case 'the version in CHANGELOG.md, python/pyproject.toml and the pages'
     version=$("$program" --version)
     grep -m 1 '^## ' CHANGELOG.md | grep -qx "## ${version#inrc2pb }" || complain "it does not begin with ${version#inrc2pb }"
     grep -qx "version = \"${version#inrc2pb }\"" python/pyproject.toml || complain "python/pyproject.toml has another one"
+    ! grep -oE 'inrc2pb[ _][0-9]+\.[0-9.]*[0-9]|such as [0-9]+\.[0-9]+\.[0-9]+' docs/*.md | grep -vF "${version#inrc2pb }" > "$room/versions" ||
+        complain "another version: $(cat "$room/versions")"
 }
 
 weeks_are_made() {
