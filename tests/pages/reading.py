@@ -81,7 +81,7 @@ BELIEFS = [
     ("`encode` writes such a model, or names the first fault.", 2),
     ("Each byte of the model is the specified one.", 3),
     ("`decode` and `extend` keep their promises.", 4),
-    ("All of `inrc2pb` does, from its words to its status.", 5),
+    ("All of `inrc2pb` keeps its promises, from its words to its status.", 5),
 ]
 # Below the heading of a list: the statement for which the page says what else it rests on.
 RESTING = {
@@ -91,6 +91,7 @@ RESTING = {
         "BoundProgramOutcome",
     ),
 }
+# The same of these statements: in words, the lists in words, and where the statement is.
 BOUND_BELIEFS = [
     (
         "A bound holds for all rosters, and a given penalty is right.",
@@ -235,14 +236,16 @@ def counted(files: List[Path]) -> str:
 def beliefs() -> str:
     """The table of what a reader may want to believe, with the files to read for it."""
     every = [wanted for _, wanted, _ in lists()]
-    needs = [
-        (text, "list 1" if count == 1 else f"lists 1 to {count}", set().union(*every[:count]))
-        for text, count in BELIEFS
-    ]
+    needs = [(text, first_lists(count), set().union(*every[:count])) for text, count in BELIEFS]
     needs += [(text, where, reach.reached([start])) for text, where, start in BOUND_BELIEFS]
-    needs.append(("All of this, and the laws.", f"lists 1 to {len(every)}", set().union(*every)))
+    needs.append(("All of this, and the laws.", first_lists(len(every)), set().union(*every)))
     lines = (f"| {text} | {where} | {files_and_lines(files)} |\n" for text, where, files in needs)
     return f"| you want to believe | read | files | lines |\n|---|---|---:|---:|\n{''.join(lines)}"
+
+
+def first_lists(count: int) -> str:
+    """The numbers of the first lists, in words."""
+    return {1: "list 1", 2: "lists 1 and 2"}.get(count, f"lists 1 to {count}")
 
 
 def files_and_lines(files: Set[Path]) -> str:
