@@ -21,7 +21,8 @@ class Steps(NamedTuple):
 
 
 # From nothing, in a few weeks and in more; and from prices that were good before some weeks of
-# nurses were fixed.
+# nurses were fixed. By them the prices of 40 nurses and eight weeks take 20 seconds of processors,
+# and 46 by the linear program alone.
 FEW = Steps(50, 10.0 * POINT, 0.1 * POINT, 0.3)
 MANY = Steps(150, 10.0 * POINT, 0.05 * POINT, 0.1)
 AGAIN = Steps(12, 3.0 * POINT, 0.3 * POINT, 0.2)

@@ -20,7 +20,8 @@ from .row_program import EXACT, MOST_BELOW, RowProgram, Solved
 # The rounds of the first prices with whose rows the linear program begins.
 BEGINNING = 10
 # The share of the best prices in those that are tried next, and in a long period, in which a
-# solution of the linear program takes longer.
+# solution of the linear program takes longer. With the prices of the solution alone four weeks of
+# 80 nurses were open after 113 and 118 seconds.
 SMOOTHING = 0.4
 LONG_SMOOTHING = 0.7
 # A row is worth a column if it costs less than the known ones by more than this many thousandths.

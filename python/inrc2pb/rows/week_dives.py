@@ -25,7 +25,10 @@ FIRST_SHARE = 0.06
 LEAST_SHARE = 0.02
 MOST_SHARE = 0.5
 # A fixing of several weeks is undone if the value, in points, rises by more than the first number.
-# If it rises by less than the second one, more weeks are fixed at once.
+# If it rises by less than the second one, more weeks are fixed at once. With it four weeks of 80
+# and of 100 nurses are proved in 17 and 24 seconds of processors (the medians of three seeds),
+# without it in 42 and 36, and in 25 and 17 if the first eight that cost more than 5 points are
+# undone, too.
 MOST_RISE = 6 * STEP
 LITTLE_RISE = 1.5 * STEP
 # The most rounds of new rows between two fixings. They end sooner if the value of the program, in
@@ -35,7 +38,8 @@ NEAR = STEP / 2
 # A plan with more places than this is large: a solution of its program takes longer than rounds of
 # prices without it. So after each fixing the rows of the last of such rounds come first, and the
 # rounds of new rows end, too, if the last solutions made the value, in points, fall by less than
-# this.
+# this. A dive for 40 nurses and eight weeks takes 40 seconds of processors with such rounds, and 70
+# without. A small plan loses more time by them than it gains.
 MANY_PLACES = 400
 KEPT_AGAIN = 4
 TAIL = 2
