@@ -65,7 +65,7 @@ LISTS = [
     FileList("The exact text", [], [ENCODE], set()),
     FileList("Decode and extend", [], [DECODE, EXTEND], set()),
     FileList("The whole program", [], [PERFORM, PROGRAM], set()),
-    FileList("What a bound means", ["rota_bound_run/specs/Claims.antt"], [], set()),
+    FileList("The meaning of a bound", ["rota_bound_run/specs/Claims.antt"], [], set()),
     FileList("A proved bound", [], [BOUND, BOUND_PERFORM, BOUND_PROGRAM], {EXACT_ANSWERS}),
     FileList("The exact bound", [], [BOUND], set()),
     FileList(
@@ -85,7 +85,7 @@ BELIEFS = [
 ]
 # Below the heading of a list: the statement for which the page says what else it rests on.
 RESTING = {
-    "What a bound means": ("rota_bound_run/specs/Claims.antt", "IsTrue"),
+    "The meaning of a bound": ("rota_bound_run/specs/Claims.antt", "IsTrue"),
     "A proved bound": (
         "inrc2pb_bound_program/specs/BoundPrograms.antt",
         "BoundProgramOutcome",
@@ -96,7 +96,7 @@ BOUND_BELIEFS = [
     (
         "A bound holds for all rosters, and a given penalty is right.",
         "list 6, some of 1 and 2",
-        (CRATES / RESTING["What a bound means"][0], RESTING["What a bound means"][1]),
+        (CRATES / RESTING["The meaning of a bound"][0], RESTING["The meaning of a bound"][1]),
     ),
     (
         "All of `inrc2pb-bound` keeps its promise.",
