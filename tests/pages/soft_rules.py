@@ -21,7 +21,6 @@ OLDER = r"(CHANGELOG\.md|docs/DECISIONS\.md|.*\.txt|.*\.edit|(bench|certified|ex
 # Rules that have no line in a file, and why.
 EXEMPT = {
     "python/inrc2pb/judging/constraints.py": {"S4"},  # has terms of the objective, no constraint
-    "python/inrc2pb/plans/sentences.py": {"S1", "S4"},  # a nurse's contract says nothing of them
 }
 
 

@@ -9,6 +9,7 @@ from ..shown.changes import change_text, shifts_text
 from ..shown.why import in_words as charge_text
 from ..week.dates import PlanDays
 from ..week.records import WEEK_DAYS, Cell, NurseDay
+from ..week.soft_rules import RULES
 from ..week.words import OFF, joined, plural, quoted, readable, wish_text
 from .changes import ShiftChange, called
 from .facts import (
@@ -168,23 +169,13 @@ def beside_lines(plan: WardPlan) -> List[str]:
     return [beside_text(plan.days, beside) for beside in beside_days_away(plan)]
 
 
-# Why days away have a part in the charges of a rule.
-_DUE = {
-    "S2": "the days in a row end at her days away ({})",
-    "S3": "her days away ({}) count as days off",
-    "S5": "she is away on the other day ({})",
-    "S6": "some of her shifts are for days away ({})",
-    "S7": "some of her weekends are days away ({})",
-}
-
-
 def due_lines(plan: WardPlan) -> List[str]:
     """A line for each charge in which days away have a part, and the sum of what is due to them."""
     due = due_to_days_away(plan)
     said = []
     for part in due:
         text = charge_text(part.charge, names=plan.day_names(part.week))
-        why = _DUE[part.charge.rule].format(joined(part.words))
+        why = RULES[part.charge.rule].away.format(joined(part.words))
         said.append(readable(f"{part.points} points: {text}: {why}"))
     return (
         [*said, f"{sum(part.points for part in due)} of the points are due to days away"]

@@ -21,32 +21,51 @@ class Form(enum.Enum):
 
 
 class Rule(NamedTuple):
-    """A soft rule: its name, the points of each time, what it charges, the form of its charges, and
-    a word for what they count."""
+    """A soft rule: its name, the points of each time, what it charges, the form of its charges, why
+    a nurse's days away have a part in them (no text, if they have none), and a word for what they
+    count."""
 
     name: str
     weight: int
     words: str
     form: Form
+    away: str
     counts: str = ""
 
 
 RULES = {
     rule.name: rule
     for rule in (
-        Rule("S1", 30, "fewer nurses than best", Form.PLACE, "nurse"),
+        Rule("S1", 30, "fewer nurses than best", Form.PLACE, "", "nurse"),
         Rule(
             "S2",
             30,
             "days in a row with work or on one shift type",
             Form.RUN,
+            "the days in a row end at her days away ({})",
             "with work",
         ),
-        Rule("S3", 30, "days in a row off", Form.RUN, "off"),
-        Rule("S4", 10, "a wish that is not granted", Form.REQUEST),
-        Rule("S5", 30, "half a weekend", Form.WEEKEND),
-        Rule("S6", 20, "shifts in the period", Form.TOTAL, "shift"),
-        Rule("S7", 30, "weekends in the period", Form.TOTAL, "weekend"),
+        Rule(
+            "S3", 30, "days in a row off", Form.RUN, "her days away ({}) count as days off", "off"
+        ),
+        Rule("S4", 10, "a wish that is not granted", Form.REQUEST, ""),
+        Rule("S5", 30, "half a weekend", Form.WEEKEND, "she is away on the other day ({})"),
+        Rule(
+            "S6",
+            20,
+            "shifts in the period",
+            Form.TOTAL,
+            "some of her shifts are for days away ({})",
+            "shift",
+        ),
+        Rule(
+            "S7",
+            30,
+            "weekends in the period",
+            Form.TOTAL,
+            "some of her weekends are days away ({})",
+            "weekend",
+        ),
     )
 }
 SOFT_RULES = tuple(RULES)
