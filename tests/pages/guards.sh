@@ -40,9 +40,9 @@ notices clauses 'run::run_bound spare' $run "$(with_promise 'is_some files.new.g
 notices clauses 'Prices::new empty' rota_core/src/prices.rt \
     's/^        ensures shifts { IfOk/        ensures empty { IfOk result (λ prices. ⊤) }\n&/'
 files=rota_bound_run/specs/PeriodFiles.antt
-notices fields KeepsFiles.unusual $files 's/^  pub rosters : length new.*/&\n  pub unusual : is_some new.given ≡ is_some new.given/'
+notices fields AreFiles.unusual $files 's/^  pub rosters : AreRosters.*/&\n  pub unusual : files.given ≡ files.given/'
 # Other records have fields of this name.
-notices fields KeepsFiles.path $files 's/^  pub rosters : length new.*/&\n  pub path : is_some new.given ≡ is_some new.given/'
+notices fields AreFiles.path $files 's/^  pub rosters : AreRosters.*/&\n  pub path : files.given ≡ files.given/'
 outcome=inrc2pb_bound_program/specs/BoundPrograms.antt
 notices doors 'BoundOutcome.ran spare' $outcome 's/ran : (opened left :/ran : (opened left spare :/'
 # The files of the run need not be those that were opened.

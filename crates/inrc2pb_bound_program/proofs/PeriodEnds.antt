@@ -50,10 +50,10 @@ module _ {F : Type 0} (opener : Opener F) (job : BoundJob) (out : Writer) (known
       AnswersFrom job.question opener.port opened left out result → Exits result → Ends
   ends_ran opened left new (Ok done) answers exits =
       ends_done inrc2pb_bound.app.top.name help errors status (answer_in opener.at job.question job.paths) (λ f. f) (bound_written out)
-      about_period unread_period (writes-answer opener.port opener.at known job.question job.paths opened left new out) answers.ends exits.0
+      about_period unread_period (writes-answer opener.port opener.at known job.question job.paths opened left new out) answers exits.0
   ends_ran opened left new (Err fault) answers exits =
       ends_failed inrc2pb_bound.app.top.name help errors status (answer_in opener.at job.question job.paths) (λ f. f) (bound_written out)
-      about_period unread_period (writes-answer opener.port opener.at known job.question job.paths opened left new out) fault answers.ends exits
+      about_period unread_period (writes-answer opener.port opener.at known job.question job.paths opened left new out) fault answers exits
 
   pub ends_so : (result : Result (Unit {0}) PeriodFault) → BoundOutcome opener job out result → Exits result → Ends
   ends_so result (unopened fault is opens idle) exits = ends_unopened result fault is idle exits

@@ -1,6 +1,6 @@
 -- The run for a period shows what lies in the files: each step of it, beside the step over their contents.
-use Rattle.std.proofs.Common.{◌≡◌, ◌∙◌, ℕ, suc, ◌+◌, ◌==◌, ◌++◌, refl, ap, sym, subst, arith, inl, inr, List, [], ◌∷◌, length, map, Result}
-use Rattle.std.specs.Prelude.{⊤, ◌⊎◌, Bool, true, false, Option, Some, None, Vec, if◌then◌else◌, slice_get, unwrap_or}
+use Rattle.std.proofs.Common.{◌≡◌, ◌∙◌, ℕ, suc, ◌+◌, ◌==◌, ◌++◌, refl, ap, sym, subst, arith, inl, inr, List, [], ◌∷◌, length, map, Result, Ok, Err}
+use Rattle.std.specs.Prelude.{⊤, ◌⊎◌, Bool, true, false, Option, Some, None, Vec, if◌then◌else◌, slice_get}
 use Rattle.std.specs.declared.string.String.{String}
 use Rattle.byte_ports.specs.declared.ports.Source.{Ghosts}
 use Rattle.rota_core.specs.InstanceTables.{InstanceTables, IsInstance, holding, problem_of}
@@ -40,7 +40,7 @@ use Rattle.rota_bound_run.specs.ExactAnswers.{IsAnswer}
 use Rattle.rota_bound_run.specs.Judging.{ArePastsOf, IsBeyond, history_before, judge_week}
 use Rattle.rota_bound_run.specs.PeriodFiles.{each_of, period_readers, reader_if, week_readers}
 use Rattle.rota_bound_run.specs.PeriodRead.{read_given, read_next, read_weeks}
-use Rattle.rota_bound_run.specs.PeriodSteps.{PeriodStep, for_all, for_week, in_turn, renamed}
+use Rattle.rota_bound_run.specs.PeriodSteps.{PeriodStep, for_all, for_week, in_turn, lost, renamed}
 use Rattle.rota_bound_run.specs.PlanJudged.{for_some, judge_next, judge_plan, meet_given}
 use Rattle.rota_bound_run.specs.Wards.{IsWardOf, read_ward}
 use Rattle.rota_bound_run.specs.WeeksRead.{IsLate, hold_cells, read_period_week, week_at}
@@ -104,23 +104,16 @@ length-readers one_of [] news = refl
 length-readers one_of (old ∷ olds) [] = ap suc (length-readers one_of olds [])
 length-readers one_of (old ∷ olds) (new ∷ news) = ap suc (length-readers one_of olds news)
 
-late-refused : (ward : Ward) (later : ℕ) (fault : Fault) → about fault ≡ contents → (fault ≡ Memory) ⊎ IsLate ward later fault →
-    IsLate ward later fault
-late-refused ward later fault of (inl is) = absurd (cc (of, ap about is))
-late-refused ward later fault of (inr late) = late
+-- a fault of the files, unless memory runs out
+module _ (IsFound : Fault → Type 0) where
+  found-refused : (fault : Fault) → about fault ≡ contents → (fault ≡ Memory) ⊎ IsFound fault → IsFound fault
+  found-refused fault of (inl is) = absurd (cc (of, ap about is))
+  found-refused fault of (inr found) = found
 
-late-unwritten : (ward : Ward) (later : ℕ) (fault : Fault) → about fault ≡ writing → (fault ≡ Memory) ⊎ IsLate ward later fault → ⊥
-late-unwritten ward later fault of (inl is) = cc (of, ap about is)
-late-unwritten ward later fault of (inr late) = cc (of, ap about late.is)
-
-repeats-refused : (found : Certificate) (fault : Fault) → about fault ≡ contents → (fault ≡ Memory) ⊎ HasRepeatedFact found fault →
-    HasRepeatedFact found fault
-repeats-refused found fault of (inl is) = absurd (cc (of, ap about is))
-repeats-refused found fault of (inr repeats) = repeats
-
-repeats-unwritten : (found : Certificate) (fault : Fault) → about fault ≡ writing → (fault ≡ Memory) ⊎ HasRepeatedFact found fault → ⊥
-repeats-unwritten found fault of (inl is) = cc (of, ap about is)
-repeats-unwritten found fault of (inr repeats) = cc (of, ap about repeats.fault_is)
+  found-unwritten : ((fault : Fault) → IsFound fault → about fault ≡ contents) → (fault : Fault) → about fault ≡ writing →
+      (fault ≡ Memory) ⊎ IsFound fault → ⊥
+  found-unwritten is_of fault of (inl is) = cc (of, ap about is)
+  found-unwritten is_of fault of (inr found) = cc (of, is_of fault found)
 
 shows-met : (weeks : List InstanceTables) (given : GivenTables) (rosters : List RosterTables) → Shows about_period
     (meet_given weeks given rosters >>= λ judged. check (λ found. found ≡ Some judged) (λ fault. ⊥))
@@ -128,6 +121,20 @@ shows-met : (weeks : List InstanceTables) (given : GivenTables) (rosters : List 
 shows-met weeks given rosters =
     shows-then about_period (shows-same about_period _ _ (λ fault of unmet. cc (of, ap about_period unmet.1))) (λ judged.
     shows-find about_period (λ found. found ≡ Some judged))
+
+-- a run that never ends shows all
+shows-all : {F A : Type 0} (about : F → About) {run shown : StepOf F A} → ((result : Result A F) → run.ends result → ⊥) → shown.untouched →
+    Shows about run shown
+shows-all about never idle = record {
+  idle = idle;
+  found = λ value ends. absurd (never (Ok value) ends);
+  refused = λ fault of ends. absurd (never (Err fault) ends);
+  unwritten = λ fault of ends. never (Err fault) ends;
+}
+
+-- the step at a file that was let go
+shows-lost : {F A : Type 0} (about : F → About) {shown : StepOf F A} → shown.untouched → Shows about lost shown
+shows-lost about idle = shows-all about (λ result ends. ends) idle
 
 -- no run goes on from a step that never ends
 never-ends : {F A B : Type 0} {next : A → StepOf F B} {result : Result B F} →
@@ -179,8 +186,9 @@ module _ {F X : Type 0} (port : Ghosts F) (at : Path → FileAt) (known : (path 
   shows-held tables None None new is = shows-find about (λ held. held ≡ tables)
   shows-held tables None (Some old) new is = absurd is
   shows-held tables (Some path) None new is = absurd is
-  shows-held tables (Some path) (Some old) new is =
-      shows-then about (shows-roster (told port at known path old (unwrap_or new old) is) names.Fixed tables) (λ roster.
+  shows-held tables (Some path) (Some old) None is = shows-lost about (tt, λ roster. tt)
+  shows-held tables (Some path) (Some old) (Some new) is =
+      shows-then about (shows-roster (told port at known path old new is) names.Fixed tables) (λ roster.
       shows-find about (λ held. held ≡ holding tables roster))
 
   shows-week : (early : Bool) (ward : Ward) (later : ℕ) (paths : WeekFiles (String X)) (old new : WeekFiles F) → IsNewWeek port at paths old →
@@ -188,7 +196,7 @@ module _ {F X : Type 0} (port : Ghosts F) (at : Path → FileAt) (known : (path 
   shows-week early ward later paths old new is =
       shows-then about (shows-spelled (told port at known paths.week old.week new.week is.week) names.Week (week_layout ward.scenario)) (λ w.
       shows-then about (shows-check about (λ tables. (tables ≡ week_at early ward later w) × IsInstance tables) _ (IsLate ward later)
-      (late-refused ward later) (late-unwritten ward later)) (λ tables.
+      (found-refused (IsLate ward later)) (found-unwritten (IsLate ward later) (λ fault late. ap about late.is))) (λ tables.
       shows-held tables paths.fix old.fix new.fix is.fix))
 
   module _ (early : Bool) (ward : Ward) (count : ℕ) where
@@ -210,8 +218,9 @@ module _ {F X : Type 0} (port : Ghosts F) (at : Path → FileAt) (known : (path 
     shows-weeks [] (old ∷ olds) news pairs found = absurd pairs
     shows-weeks (path ∷ paths) [] news pairs found = absurd pairs
     shows-weeks (path ∷ paths) (old ∷ olds) [] pairs found =
-        shows-next_week found path old old pairs.0 (λ more. weeks_in at early ward count more paths)
-        (λ week. shows-weeks paths olds [] pairs.1 (found ++ week ∷ []))
+        shows-lost about_period (shows-next_week found path old old pairs.0
+        {next = λ more. in_turn (read_next early ward count) more (each_of (week_readers port) olds [])} (λ more. weeks_in at early ward count more paths)
+        (λ week. shows-weeks paths olds [] pairs.1 (found ++ week ∷ []))).idle
     shows-weeks (path ∷ paths) (old ∷ olds) (new ∷ news) pairs found =
         shows-next_week found path old new pairs.0 (λ more. weeks_in at early ward count more paths)
         (λ week. shows-weeks paths olds news pairs.1 (found ++ week ∷ []))
@@ -233,7 +242,8 @@ module _ {F X : Type 0} (port : Ghosts F) (at : Path → FileAt) (known : (path 
   shows-given s weeks None None new is = shows-find about (λ given. given ≡ no_facts)
   shows-given s weeks None (Some old) new is = absurd is
   shows-given s weeks (Some path) None new is = absurd is
-  shows-given s weeks (Some path) (Some old) new is = shows-spelled (told port at known path old (unwrap_or new old) is) names.Facts (facts s weeks)
+  shows-given s weeks (Some path) (Some old) None is = shows-lost about tt
+  shows-given s weeks (Some path) (Some old) (Some new) is = shows-spelled (told port at known path old new is) names.Facts (facts s weeks)
 
   shows-certificate : (s : ScenarioTables) (weeks : ℕ) (path : Option (String X)) (old new : Option F) → IsNewIfNamed port at path old →
       Shows about (read_proof s weeks (reader_if port old new)) (certificate_in at s weeks path)
@@ -242,12 +252,12 @@ module _ {F X : Type 0} (port : Ghosts F) (at : Path → FileAt) (known : (path 
       (λ fault of lacks. cc (of, ap about lacks))
   shows-certificate s weeks None (Some old) new is = absurd is
   shows-certificate s weeks (Some path) None new is = absurd is
-  shows-certificate s weeks (Some path) (Some old) new is =
-      let after_it = unwrap_or new old in
-      shows-then about (shows-file names.Certificate (certificate s weeks) (content_of at path) (reader_of port old after_it)
-      (told port at known path old after_it is) _ _ (λ found read. (lies (told port at known path old after_it is) read.0, read.1))) (λ found.
-      shows-check about (λ same. (same ≡ found) × ¬ RepeatsFact found) _ (HasRepeatedFact found) (repeats-refused found)
-      (repeats-unwritten found))
+  shows-certificate s weeks (Some path) (Some old) None is = shows-lost about (tt, λ found. tt)
+  shows-certificate s weeks (Some path) (Some old) (Some new) is =
+      shows-then about (shows-file names.Certificate (certificate s weeks) (content_of at path) (reader_of port old new)
+      (told port at known path old new is) _ _ (λ found read. (lies (told port at known path old new is) read.0, read.1))) (λ found.
+      shows-check about (λ same. (same ≡ found) × ¬ RepeatsFact found) _ (HasRepeatedFact found)
+      (found-refused (HasRepeatedFact found)) (found-unwritten (HasRepeatedFact found) (λ fault repeats. ap about repeats.fault_is)))
 
   -- ---- the rosters
 
@@ -275,12 +285,7 @@ module _ {F X : Type 0} (port : Ghosts F) (at : Path → FileAt) (known : (path 
             Shows about_period ((for_some week λ w. for_week (length weeks) (length found) (judge_week w past (reader_of port old new)) >>=
             λ roster. check (λ more. more ≡ found ++ roster ∷ []) (λ fault. ⊥)) >>= next)
             (for_some week λ w. for_week (length weeks) (length found) (judged_in at w past path) >>= λ roster. onward (found ++ roster ∷ []))
-        either None = record {
-          idle = tt;
-          found = λ value ends. never-ends ends;
-          refused = λ fault of ends. never-ends ends;
-          unwritten = λ fault of ends. never-ends ends;
-        }
+        either None = shows-all about_period (λ result ends. never-ends ends) tt
         either (Some week) =
             shows-made about_period (shows-for_week (length weeks) (length found) (shows-judged week past path old new is))
             (λ roster. found ++ roster ∷ []) (λ fault never. absurd never) {next = next} {onward = λ roster. onward (found ++ roster ∷ [])} more
@@ -292,8 +297,9 @@ module _ {F X : Type 0} (port : Ghosts F) (at : Path → FileAt) (known : (path 
     shows-rosters [] (old ∷ olds) news pairs found = absurd pairs
     shows-rosters (path ∷ paths) [] news pairs found = absurd pairs
     shows-rosters (path ∷ paths) (old ∷ olds) [] pairs found =
-        shows-next_roster found path old old pairs.0 (λ more. rosters_in at weeks more paths)
-        (λ roster. shows-rosters paths olds [] pairs.1 (found ++ roster ∷ []))
+        shows-lost about_period (shows-next_roster found path old old pairs.0
+        {next = λ more. in_turn (judge_next weeks) more (each_of (reader_of port) olds [])} (λ more. rosters_in at weeks more paths)
+        (λ roster. shows-rosters paths olds [] pairs.1 (found ++ roster ∷ []))).idle
     shows-rosters (path ∷ paths) (old ∷ olds) (new ∷ news) pairs found =
         shows-next_roster found path old new pairs.0 (λ more. rosters_in at weeks more paths)
         (λ roster. shows-rosters paths olds news pairs.1 (found ++ roster ∷ []))

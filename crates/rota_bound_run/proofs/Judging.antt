@@ -87,9 +87,9 @@ pub record IsNextWeek (weeks : List InstanceTables) (i : ℕ) (week : InstanceTa
   pub here : drop i weeks ≡ (week ∷ drop (i + 1) weeks)
   pub numbers : (problem_of week).numbers ≡ numbers_in weeks
 
-pub next-week : (weeks now : List InstanceTables) (i : ℕ) (week : InstanceTables) → IsPeriod weeks → now ≡ weeks → i < length weeks →
-    week ≡ get_or now i week → IsNextWeek weeks i week
-next-week weeks now i week period same inside is =
+pub next-week : (weeks now : List InstanceTables) {i : ℕ} (week : InstanceTables) → IsPeriod weeks → now ≡ weeks → week ≡ get_or now i week →
+    i < length weeks → IsNextWeek weeks i week
+next-week weeks now {i} week period same is inside =
     let at : week ≡ get_or weeks i week = is ∙ ap (λ (ws : List InstanceTables). get_or ws i week) same in
     record {
       at = slice_get_read weeks (length weeks) i week refl inside at;
@@ -100,6 +100,7 @@ next-week weeks now i week period same inside is =
 -- the list has the pasts of the week's nurses before it
 pub pasts-for : (weeks : List InstanceTables) (i : ℕ) (rosters : List RosterTables) (cost : ℕ) (pasts : List Past) (week :
     InstanceTables) →
-    AreJudged weeks i rosters cost pasts → IsNextWeek weeks i week → ArePastsIn (problem_of week).nurses (before weeks rosters) pasts
-pasts-for weeks i rosters cost pasts week judged next =
-    subst (λ (all : Numbers). ArePastsIn all.nurses (before weeks rosters) pasts) (sym next.numbers) judged.left
+    AreJudged weeks i rosters cost pasts → (problem_of week).numbers ≡ numbers_in weeks →
+    ArePastsIn (problem_of week).nurses (before weeks rosters) pasts
+pasts-for weeks i rosters cost pasts week judged numbers =
+    subst (λ (all : Numbers). ArePastsIn all.nurses (before weeks rosters) pasts) (sym numbers) judged.left

@@ -2,7 +2,6 @@ pub mod FreePrices
 pub mod InTurn
 pub mod JudgedAfter
 pub mod Judging
-pub mod KeptFiles
 pub mod OtherHistories
 pub mod PastLists
 pub mod Penalties

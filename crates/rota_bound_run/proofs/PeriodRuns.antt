@@ -17,9 +17,9 @@ use Rattle.rota_pb.specs.declared.fault.Fault.{Fault}
 use Rattle.rota_pb.specs.declared.period_fault.PeriodFault.{PeriodFault}
 use Rattle.rota_bound_run.specs.CertificateRead.{read_proof}
 use Rattle.rota_bound_run.specs.Judging.{history_before, judge_week}
-use Rattle.rota_bound_run.specs.PeriodFiles.{OptionalReader, each_of, reader_if, week_readers}
+use Rattle.rota_bound_run.specs.PeriodFiles.{each_of, reader_if, week_readers}
 use Rattle.rota_bound_run.specs.PeriodRead.{read_given, read_next, read_weeks}
-use Rattle.rota_bound_run.specs.PeriodSteps.{PeriodStep, for_week}
+use Rattle.rota_bound_run.specs.PeriodSteps.{Optional, PeriodStep, for_week}
 use Rattle.rota_bound_run.specs.PlanJudged.{for_some, judge_all, judge_next, judge_plan, meet_given}
 use Rattle.rota_bound_run.specs.declared.answer.PeriodAnswer.{PeriodAnswer}
 use Rattle.rota_bound_run.specs.declared.files.PeriodFiles.{PeriodFiles}
@@ -64,7 +64,7 @@ module _ {S : Type 0} (port : Ghosts S) where
   )
 
 -- the step of given rosters
-abbrev pub judge_some : List InstanceTables → GivenTables → List Reader → PeriodStep (Option Judged)
+abbrev pub judge_some : List InstanceTables → GivenTables → List (Optional Reader) → PeriodStep (Option Judged)
 judge_some weeks given readers =
     judge_all weeks readers >>= λ rosters. meet_given weeks given rosters >>= λ judged. check (λ found. found ≡ Some judged) (λ fault. ⊥)
 
@@ -129,12 +129,12 @@ not-zero n len empty same is full = grind (arith, nat_tests)
 -- ---- the number of weeks, counted in the code
 
 -- the given facts are for all weeks
-pub given-for-all : {n m : ℕ} (s : ScenarioTables) (file : OptionalReader) (result : Result GivenTables Fault) → n ≡ m →
+pub given-for-all : {n m : ℕ} (s : ScenarioTables) (file : Optional Reader) (result : Result GivenTables Fault) → n ≡ m →
     (read_given s n file).ends result → (read_given s m file).ends result
 given-for-all s file result same ends = subst (λ (n : ℕ). (read_given s n file).ends result) same ends
 
 -- the certificate is for all weeks
-pub proof-for-all : {n m : ℕ} (s : ScenarioTables) (file : OptionalReader) (result : Result Certificate Fault) → n ≡ m →
+pub proof-for-all : {n m : ℕ} (s : ScenarioTables) (file : Optional Reader) (result : Result Certificate Fault) → n ≡ m →
     (read_proof s n file).ends result → (read_proof s m file).ends result
 proof-for-all s file result same ends = subst (λ (n : ℕ). (read_proof s n file).ends result) same ends
 

@@ -49,9 +49,8 @@ module _ (early : Bool) (ward : Ward) where
       (problem_of one).is_last ≡ false
   not-last later one other is next =
       let here = ap (λ (h : HistoryTables). h.week) is.history in
-      let there = ap (λ (h : HistoryTables). h.week) next.history in
-      let weeks = ap (λ (t : ScenarioTables). t.weeks) (is.scenario ∙ sym next.scenario) in
-      differs (one.history.week + 1) one.scenario.weeks (omega (arith, here, there, weeks, next.limits.spanned))
+      let weeks = ap (λ (t : ScenarioTables). t.weeks) is.scenario in
+      differs (one.history.week + 1) one.scenario.weeks (omega (arith, here, weeks, next.spanned))
 
   first-week : (first : InstanceTables) (rest : List InstanceTables) → AreWeeksFrom early ward 0 (first ∷ rest) → IsWeekAt early ward 0
       first
@@ -69,18 +68,16 @@ module _ (early : Bool) (ward : Ward) where
   within : (later : ℕ) (first : InstanceTables) (rest : List InstanceTables) → AreWeeksFrom early ward later (first ∷ rest) →
       ward.history.week + later + length rest < ward.scenario.weeks
   unfolding AreWeeksFrom
-  within later first [] are =
-      let here = ap (λ (h : HistoryTables). h.week) are.0.history in
-      let weeks = ap (λ (t : ScenarioTables). t.weeks) are.0.scenario in
-      omega (arith, here, weeks, are.0.limits.spanned)
+  within later first [] are = omega (arith, are.0.spanned)
   within later first (next ∷ rest) are = omega (arith, within (later + 1) next rest are.1)
 
   pub is-period : (weeks : List InstanceTables) → AreWeeksFrom early ward 0 weeks → IsPeriod weeks
   is-period [] are = record { count = omega arith; period = tt }
   is-period (first ∷ rest) are =
-      let weeks = ap (λ (t : ScenarioTables). t.weeks) (first-week first rest are).scenario in
-      let few = (first-week first rest are).limits.scenario.weeks.1 in
-      record { count = omega (arith, within 0 first rest are, weeks, few); period = continue 0 first rest are }
+      record {
+        count = omega (arith, within 0 first rest are, (first-week first rest are).few);
+        period = continue 0 first rest are;
+      }
 
   given-for : (weeks : List InstanceTables) (given : List Condition) → AreWeeksFrom early ward 0 weeks → 0 < length weeks →
       AreConditionsFor (numbers_of ward.scenario) (length weeks) given → length given ≤ max_number → AreGivenFor weeks given

@@ -1,7 +1,8 @@
 -- Steps for a week that were not started.
-use Rattle.std.proofs.Common.{◌≡◌, ℕ, refl, ap, sym, ◌∙◌, subst, List, [], ◌∷◌, ◌++◌, length, Result, Ok, Err, IfOk}
+use Rattle.std.proofs.Common.{◌≡◌, ℕ, ◌<◌, ◌≤◌, refl, ap, sym, ◌∙◌, subst, List, [], ◌∷◌, ◌++◌, length, Result, Ok, Err, IfOk}
 use Rattle.std.specs.Prelude.{Bool, Option, Some, None}
-use Rattle.rota_core.specs.InstanceTables.{InstanceTables}
+use Rattle.rota_core.specs.InstanceTables.{InstanceTables, IsInstance}
+use Rattle.rota_core.specs.Limits.{max_weeks}
 use Rattle.rota_core.specs.WeekTables.{WeekTables}
 use Rattle.byte_ports.specs.declared.ports.Source.{Ghosts}
 use Rattle.rota_pb.specs.PeriodFaults.{fault_in_week}
@@ -30,13 +31,14 @@ reads-no-week port early ward count found files = ((refl, λ w. (tt, λ tables. 
 -- a week that is joined with the ward, with cells held
 pub is-week-at : (early : Bool) (ward : Ward) (later : ℕ) (w : WeekTables) (tables : InstanceTables) (held : Result InstanceTables Fault)
     →
-    tables ≡ week_at early ward later w → IfOk held (IsLike tables) → IfOk held (IsWeekAt early ward later)
-is-week-at early ward later w tables (Err fault) is like = tt
-is-week-at early ward later w tables (Ok held) is like = record {
+    tables ≡ week_at early ward later w → IsInstance tables → IfOk held (IsLike tables) → IfOk held (IsWeekAt early ward later)
+is-week-at early ward later w tables (Err fault) is limits like = tt
+is-week-at early ward later w tables (Ok held) is limits like = record {
   scenario = like.scenario ∙ ap (λ (t : InstanceTables). t.scenario) is;
   history = like.history ∙ ap (λ (t : InstanceTables). t.history) is;
   is_early = like.is_early ∙ ap (λ (t : InstanceTables). t.is_early) is;
-  limits = like.limits;
+  spanned = subst (λ (t : InstanceTables). t.history.week < t.scenario.weeks) is limits.spanned;
+  few = subst (λ (t : InstanceTables). t.scenario.weeks ≤ max_weeks) is limits.scenario.weeks.1;
 }
 
 -- ---- a loop over the files of the weeks

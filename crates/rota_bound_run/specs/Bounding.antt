@@ -7,7 +7,7 @@ use Rattle.rota_pb.specs.declared.period_fault.PeriodFault.{PeriodFault}
 use Rattle.rota_bound_run.specs.BoundText.{bound_text}
 use Rattle.rota_bound_run.specs.CertificateRead.{read_proof}
 use Rattle.rota_bound_run.specs.ExactAnswers.{IsAnswer}
-use Rattle.rota_bound_run.specs.PeriodFiles.{FilesOfPeriod, KeepsFiles, period_readers}
+use Rattle.rota_bound_run.specs.PeriodFiles.{FilesOfPeriod, period_readers}
 use Rattle.rota_bound_run.specs.PeriodRead.{read_given, read_weeks}
 use Rattle.rota_bound_run.specs.PeriodSteps.{PeriodStep, for_all, make}
 use Rattle.rota_bound_run.specs.PlanJudged.{judge_plan}
@@ -27,8 +27,6 @@ bound_run question files out = do
   answer ← make (IsAnswer question.minimums weeks given.conditions certificate judged)
   for_all (send out (bound_text answer))
 
--- the run answered the question from the files that are `old` before it and `new` after it, and each of them kept its place
-pub record AnswersFrom {S : Type 0} (question : Question) (port : SourceGhosts S) (old new : PeriodFiles S) (out : Writer)
-    (result : Result (Unit {0}) PeriodFault) : Type 0 where
-  pub kept : KeepsFiles old new
-  pub ends : (bound_run question (period_readers port old new) out).ends result
+-- the run answered the question from the files that are `old` before it and `new` after it
+abbrev pub AnswersFrom : {S : Type 0} → Question → SourceGhosts S → (old new : PeriodFiles S) → Writer → Result (Unit {0}) PeriodFault → Type 0
+AnswersFrom question port old new out result = (bound_run question (period_readers port old new) out).ends result

@@ -10,12 +10,12 @@ use Rattle.rota_core.specs.declared.fault.FileName.TheVariants as names
 use Rattle.rota_core.specs.declared.fault.Kind.TheVariants.{Repeated}
 use Rattle.rota_certificate.specs.CasePaths.{RepeatsFact}
 use Rattle.rota_certificate_read.specs.CertificateLayout.{IsCertificateOf, SpellsCertificate, certificate}
-use Rattle.rota_pb.specs.RunPorts.{IsRead}
+use Rattle.rota_pb.specs.RunPorts.{IsRead, Reader}
 use Rattle.rota_pb.specs.Steps.{Step, ◌>>=◌, call, check}
 use Rattle.rota_pb.specs.WeekFiles.{FailsCheck}
 use Rattle.rota_pb.specs.declared.fault.Fault.{Fault}
 use Rattle.rota_pb.specs.declared.fault.Fault.TheVariants.{File, Memory}
-use Rattle.rota_bound_run.specs.PeriodFiles.{OptionalReader, absent, named}
+use Rattle.rota_bound_run.specs.PeriodSteps.{Optional, absent, let_go, lost, read_by}
 
 -- a table of the scenario, in which each price is 0
 pub record IsFree (s : ScenarioTables) (table : PriceTables) : Type 0 where
@@ -45,9 +45,10 @@ abbrev pub check_paths : Certificate → Step Certificate
 check_paths found = check (λ same. (same ≡ found) × ¬ RepeatsFact found) (λ fault. (fault ≡ Memory) ⊎ HasRepeatedFact found fault)
 
 -- the certificate is read and checked; without a file each price is 0
-abbrev pub read_proof : ScenarioTables → (weeks : ℕ) → OptionalReader → Step Certificate
+abbrev pub read_proof : ScenarioTables → (weeks : ℕ) → Optional Reader → Step Certificate
 read_proof s weeks absent = check (IsFreeCertificate s weeks) (λ fault. fault ≡ Memory)
-read_proof s weeks (named reader) = do
+read_proof s weeks let_go = lost
+read_proof s weeks (read_by reader) = do
   found ← call reader (λ found. IsRead (SpellsCertificate s weeks) reader found × IsCertificateOf s weeks found)
       (FailsCheck names.Certificate (certificate s weeks) reader)
   check_paths found

@@ -4,10 +4,11 @@ use Rattle.rota_core.specs.InstanceTables.{InstanceTables}
 use Rattle.rota_core.specs.ScenarioTables.{ScenarioTables}
 use Rattle.rota_core.specs.declared.fault.FileName.TheVariants as names
 use Rattle.rota_certificate_read.specs.FactsLayout.{GivenTables, facts, no_facts}
+use Rattle.rota_pb.specs.RunPorts.{Reader}
 use Rattle.rota_pb.specs.Steps.{Step, ◌>>=◌, find}
 use Rattle.rota_pb.specs.WeekFiles.{read_file}
-use Rattle.rota_bound_run.specs.PeriodFiles.{FilesOfWeek, OptionalReader, absent, named}
-use Rattle.rota_bound_run.specs.PeriodSteps.{PeriodStep, for_week, in_turn, make}
+use Rattle.rota_bound_run.specs.PeriodFiles.{FilesOfWeek}
+use Rattle.rota_bound_run.specs.PeriodSteps.{Optional, PeriodStep, absent, for_week, in_turn, let_go, lost, make, read_by}
 use Rattle.rota_bound_run.specs.WeeksRead.{read_period_week}
 use Rattle.rota_bound_run.specs.declared.ward.Ward.{Ward}
 
@@ -18,10 +19,11 @@ read_next early ward count weeks files = do
   make (λ more. more ≡ weeks ++ week ∷ [])
 
 -- the weeks are read in order
-abbrev pub read_weeks : Bool → Ward → List FilesOfWeek → PeriodStep (List InstanceTables)
+abbrev pub read_weeks : Bool → Ward → List (Optional FilesOfWeek) → PeriodStep (List InstanceTables)
 read_weeks early ward files = in_turn (read_next early ward (length files)) [] files
 
 -- the given facts are read; without a file there are none
-abbrev pub read_given : ScenarioTables → (weeks : ℕ) → OptionalReader → Step GivenTables
+abbrev pub read_given : ScenarioTables → (weeks : ℕ) → Optional Reader → Step GivenTables
 read_given s weeks absent = find (λ given. given ≡ no_facts)
-read_given s weeks (named reader) = read_file names.Facts (facts s weeks) reader
+read_given s weeks let_go = lost
+read_given s weeks (read_by reader) = read_file names.Facts (facts s weeks) reader

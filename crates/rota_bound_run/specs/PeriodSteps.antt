@@ -30,10 +30,21 @@ for_all step = renamed Run step
 abbrev pub for_week : {A : Type 0} → (weeks index : ℕ) → Step A → PeriodStep A
 for_week weeks index step = renamed (fault_in_week weeks index) step
 
+-- what a run reads, if anything: nothing, or by these readers, or the run let it go
+pub data Optional (R : Type 1) : Type 1 where
+  absent : Optional R
+  read_by : R → Optional R
+  let_go : Optional R
+
+-- the step at a file that the run let go: no run ends with it, and none has left it out, since nothing tells what was read from the file
+abbrev pub lost : {F A : Type 0} → StepOf F A
+lost = record { ends = λ result. ⊥; untouched = ⊥ }
+
 -- a step for each of these, in their order, from the value that was found before them
-unfoldable pub in_turn : {X : Type 0} {R : Type 1} → (X → R → PeriodStep X) → X → List R → PeriodStep X
+unfoldable pub in_turn : {X : Type 0} {R : Type 1} → (X → R → PeriodStep X) → X → List (Optional R) → PeriodStep X
 in_turn step found [] = check (λ end. end ≡ found) (λ fault. ⊥)
-in_turn step found (one ∷ later) = step found one >>= λ more. in_turn step more later
+in_turn step found (read_by one ∷ later) = step found one >>= λ more. in_turn step more later
+in_turn step found (_ ∷ later) = lost
 
 -- the result ends the step, if what is found is seen in this way
 abbrev pub EndsAs : {A B E : Type 0} → (B → A) → (Result A E → Type 0) → Result B E → Type 0

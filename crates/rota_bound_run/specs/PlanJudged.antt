@@ -11,7 +11,7 @@ use Rattle.rota_pb.specs.RunPorts.{Reader}
 use Rattle.rota_pb.specs.declared.period_fault.PeriodFault.TheVariants.{Unmet}
 use Rattle.rota_pb.specs.Steps.{◌>>=◌, check}
 use Rattle.rota_bound_run.specs.Judging.{history_before, judge_week}
-use Rattle.rota_bound_run.specs.PeriodSteps.{PeriodStep, for_week, in_turn, make}
+use Rattle.rota_bound_run.specs.PeriodSteps.{Optional, PeriodStep, for_week, in_turn, make}
 use Rattle.rota_bound_run.specs.declared.judged.Judged.{Judged}
 
 -- a step for a week that exists
@@ -43,13 +43,13 @@ meet_given weeks given rosters =
     (λ fault. (line : ℕ) × (fault ≡ Unmet line) × IsUnmet weeks given rosters line)
 
 -- if there is memory for the rosters and for the pasts, the rosters are read and judged in the order of the weeks
-abbrev pub judge_all : List InstanceTables → List Reader → PeriodStep (List RosterTables)
+abbrev pub judge_all : List InstanceTables → List (Optional Reader) → PeriodStep (List RosterTables)
 judge_all weeks readers = do
   _ ← make {A = Unit {0}} (λ _. ⊤)
   in_turn (judge_next weeks) [] readers
 
 -- the rosters are read and judged, and must meet the given facts; there may be none
-abbrev pub judge_plan : List InstanceTables → GivenTables → List Reader → PeriodStep (Option Judged)
+abbrev pub judge_plan : List InstanceTables → GivenTables → List (Optional Reader) → PeriodStep (Option Judged)
 judge_plan weeks given [] = check (λ judged. judged ≡ None) (λ fault. ⊥)
 judge_plan weeks given (reader ∷ readers) = do
   rosters ← judge_all weeks (reader ∷ readers)

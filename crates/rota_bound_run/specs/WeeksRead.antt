@@ -1,16 +1,19 @@
 -- The weeks of a period, read one after the other.
-use Rattle.std.specs.Prelude.{◌≡◌, ℕ, ◌+◌, ◌≤◌, ◌⊎◌, ⊤, Bool, None, List, [], ◌∷◌}
+use Rattle.std.specs.Prelude.{◌≡◌, ℕ, ◌+◌, ◌<◌, ◌≤◌, ◌⊎◌, ⊤, Bool, None, List, [], ◌∷◌}
 use Rattle.rota_core.specs.InstanceTables.{InstanceTables, IsInstance, holding}
+use Rattle.rota_core.specs.Limits.{max_weeks}
 use Rattle.rota_core.specs.WeekTables.{WeekTables}
 use Rattle.rota_core.specs.declared.fault.FileFault.TheVariants as refusals
 use Rattle.rota_core.specs.declared.fault.FileName.TheVariants as names
 use Rattle.rota_core.specs.declared.fault.Kind.TheVariants.{LateWeek}
 use Rattle.rota_read.specs.WeekLayout.{week as week_layout}
+use Rattle.rota_pb.specs.RunPorts.{Reader}
 use Rattle.rota_pb.specs.Steps.{Step, ◌>>=◌, check, find}
 use Rattle.rota_pb.specs.WeekFiles.{read_file, read_roster}
 use Rattle.rota_pb.specs.declared.fault.Fault.{Fault}
 use Rattle.rota_pb.specs.declared.fault.Fault.TheVariants.{File, Memory}
-use Rattle.rota_bound_run.specs.PeriodFiles.{FilesOfWeek, OptionalReader, absent, named}
+use Rattle.rota_bound_run.specs.PeriodFiles.{FilesOfWeek}
+use Rattle.rota_bound_run.specs.PeriodSteps.{Optional, absent, let_go, lost, read_by}
 use Rattle.rota_bound_run.specs.Wards.{history_at}
 use Rattle.rota_bound_run.specs.declared.ward.Ward.{Ward}
 
@@ -29,9 +32,10 @@ join_week early ward later w =
     check (λ tables. (tables ≡ week_at early ward later w) × IsInstance tables) (λ fault. (fault ≡ Memory) ⊎ IsLate ward later fault)
 
 -- the cells of the file, if there is one, are held
-abbrev pub hold_cells : InstanceTables → OptionalReader → Step InstanceTables
+abbrev pub hold_cells : InstanceTables → Optional Reader → Step InstanceTables
 hold_cells tables absent = find (λ held. held ≡ tables)
-hold_cells tables (named reader) = do
+hold_cells tables let_go = lost
+hold_cells tables (read_by reader) = do
   roster ← read_roster names.Fixed tables reader
   find (λ held. held ≡ holding tables roster)
 
@@ -42,21 +46,21 @@ read_period_week early ward later files = do
   tables ← join_week early ward later w
   hold_cells tables files.fix
 
--- the tables have the same scenario, history and flag, within their limits
+-- the tables have the same scenario, history and flag
 pub record IsLike (tables held : InstanceTables) : Type 0 where
   pub scenario : held.scenario ≡ tables.scenario
   pub history : held.history ≡ tables.history
   pub is_early : held.is_early ≡ tables.is_early
-  pub limits : IsInstance held
 
 -- ---- all weeks
 
--- the tables are of the week that comes this many weeks after the first
+-- the tables are of the week that comes this many weeks after the first, within the scenario
 pub record IsWeekAt (early : Bool) (ward : Ward) (later : ℕ) (tables : InstanceTables) : Type 0 where
   pub scenario : tables.scenario ≡ ward.scenario
   pub history : tables.history ≡ history_at ward later
   pub is_early : tables.is_early ≡ early
-  pub limits : IsInstance tables
+  pub spanned : ward.history.week + later < ward.scenario.weeks
+  pub few : ward.scenario.weeks ≤ max_weeks
 
 -- the weeks come one after the other, the first of them this many weeks after the first of the period
 unfoldable pub AreWeeksFrom : Bool → Ward → ℕ → List InstanceTables → Type 0

@@ -1,5 +1,5 @@
 //! The facts that are given about all plans, from their file.
-ghost use Rattle.std.specs.Prelude.{◌≡◌, ◌≤◌, IfOk, is_some, length};
+ghost use Rattle.std.specs.Prelude.{◌≡◌, ◌≤◌, IfOk, length};
 ghost use Rattle.rota_core.specs.Certificates.{AreConditionsFor};
 ghost use Rattle.rota_core.specs.Limits.{max_number};
 ghost use Rattle.rota_core.specs.ScenarioTables.{numbers_of};
@@ -45,7 +45,6 @@ pub(crate) fn read_given<S: Source>(
     ensures few { IfOk result (λ given. length given.conditions.items ≤ max_number) }
     ensures shape { IfOk result (λ given. AreConditionsFor (numbers_of scenario.now) weeks given.conditions.items) }
     ensures lines { IfOk result (λ given. length given.lines.items ≡ length given.conditions.items) }
-    ensures kept { is_some file.new ≡ is_some file.old }
 {
     match file {
         Some(source) => read_facts_from(alloc, scenario, weeks, source),

@@ -38,7 +38,6 @@ fn judge_all<S: Source>(
     ensures planned { IfOk result (λ judged. IsPlanned weeks.old.items judged.rosters.items) }
     ensures penalty { IfOk result (λ judged. judged.penalty ≡ plan_cost (plan_from weeks.old.items judged.rosters.items)) }
     ensures same { weeks.new.items ≡ weeks.old.items }
-    ensures count { length files.new.items ≡ length files.old.items }
 {
     let count = weeks.len();
     let rosters = Vec::with_capacity(alloc, count)?;
@@ -90,7 +89,6 @@ pub(crate) fn judge_plan<S: Source>(
     ensures reads { (judge_plan weeks.old.items (given_of given.now) (each_of (reader_of S.Source) files.old.items files.new.items)).ends result }
     ensures judged { IfOk result (λ found. IfSome found (IsJudged weeks.old.items given.now.conditions.items)) }
     ensures same { weeks.new.items ≡ weeks.old.items }
-    ensures count { length files.new.items ≡ length files.old.items }
 {
     if files.is_empty() {
         return Ok(None);

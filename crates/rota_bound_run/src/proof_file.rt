@@ -1,5 +1,5 @@
 //! The certificate, from its file.
-ghost use Rattle.std.specs.Prelude.{◌≡◌, IfOk, MatchResult, is_some};
+ghost use Rattle.std.specs.Prelude.{◌≡◌, IfOk, MatchResult};
 ghost use Rattle.rota_core.specs.declared.fault.FileName.TheVariants as names;
 ghost use Rattle.rota_certificate_read.specs.CertificateLayout.{IsCertificateOf, SpellsCertificate, certificate};
 ghost use Rattle.rota_pb.specs.RunPorts.{IsRead, reader_of};
@@ -83,7 +83,6 @@ pub(crate) fn read_proof<S: Source>(
 ) -> Result<Certificate, Fault>
     ensures reads { (read_proof scenario.now weeks (reader_if S.Source file.old file.new)).ends result }
     ensures shape { IfOk result (IsCertificateOf scenario.now weeks) }
-    ensures kept { is_some file.new ≡ is_some file.old }
 {
     match file {
         Some(source) => {

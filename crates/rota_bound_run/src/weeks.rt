@@ -1,8 +1,7 @@
 //! The weeks of a period, read one after the other.
-ghost use Rattle.std.specs.Prelude.{◌≡◌, IfOk, is_some, length};
-ghost use Rattle.rota_core.specs.InstanceTables.{IsInstance};
+ghost use Rattle.std.specs.Prelude.{◌≡◌, IfOk, length};
 ghost use Rattle.rota_core.specs.ScenarioTables.{numbers_of};
-ghost use Rattle.rota_bound_run.specs.PeriodFiles.{KeepWeeks, each_of, reader_if, week_readers};
+ghost use Rattle.rota_bound_run.specs.PeriodFiles.{each_of, reader_if, week_readers};
 ghost use Rattle.rota_bound_run.specs.PeriodRead.{read_weeks};
 ghost use Rattle.rota_bound_run.specs.PeriodSteps.{EndsAs};
 ghost use Rattle.rota_bound_run.specs.Wards.{IsWard};
@@ -38,10 +37,8 @@ fn hold_cells<S: Source>(
     instance: Instance,
     fix: &mut Option<S>,
 ) -> Result<Instance, Fault>
-    requires limits { IsInstance instance }
     ensures holds { (hold_cells instance (reader_if S.Source fix.old fix.new)).ends result }
     ensures like { IfOk result (IsLike instance) }
-    ensures kept { is_some fix.new ≡ is_some fix.old }
 {
     match fix {
         Some(file) => {
@@ -63,7 +60,6 @@ fn read_period_week<S: Source>(
     requires { IsWard ward.now }
     ensures reads { (read_period_week early ward.now later (week_readers S.Source files.old files.new)).ends result }
     ensures week { IfOk result (IsWeekAt early ward.now later) }
-    ensures kept { is_some files.new.fix ≡ is_some files.old.fix }
 {
     let week = read_week_from(alloc, &ward.scenario, &mut files.week)?;
     let instance = join_week(alloc, early, ward, later, week)?;
@@ -81,7 +77,6 @@ pub(crate) fn read_weeks<S: Source>(
     ensures reads { EndsAs (λ weeks. weeks.items) (read_weeks early ward.now (each_of (week_readers S.Source) files.old.items files.new.items)).ends result }
     ensures weeks { IfOk result (λ weeks. AreWeeksFrom early ward.now 0 weeks.items) }
     ensures count { IfOk result (λ weeks. length weeks.items ≡ length files.old.items) }
-    ensures kept { KeepWeeks files.old.items files.new.items }
 {
     let mut weeks = Vec::new(alloc);
     let count = files.len();

@@ -48,10 +48,10 @@ pub judge_week-requires : goal.judge_week-requires
 judge_week-requires g c =
     let inv = c.loop-index.invariant in
     let inside : c.loop-index.index < length c.args.weeks.now.items = omega (arith, c.loop-index-test.true, c.len-count.ensures, c.args.weeks.now.ok.0) in
-    let next = next-week c.args.weeks.now.items c.loop-index.weeks.items c.loop-index.index c.index_mut.result.now c.requires.period inv.same
-    inside c.index_mut.ensures.value in
+    let next = next-week c.args.weeks.now.items c.loop-index.weeks.items c.index_mut.result.now c.requires.period inv.same
+    c.index_mut.ensures.value (omega (arith, inside)) in
     (pasts-for c.args.weeks.now.items c.loop-index.index c.loop-index.judged.rosters.items c.loop-index.judged.penalty c.loop-index.pasts.items
-    c.index_mut.result.now inv.judged next).count
+    c.index_mut.result.now inv.judged next.numbers).count
 
 pub overflow_add-judged : goal.overflow_add-judged
 overflow_add-judged g c =
@@ -60,8 +60,8 @@ overflow_add-judged g c =
     let rosters = c.loop-index.judged.rosters.items in
     let i = c.loop-index.index in
     let inside : i < length weeks = omega (arith, c.loop-index-test.true, c.len-count.ensures, c.args.weeks.now.ok.0) in
-    let next = next-week weeks c.loop-index.weeks.items i c.index_mut.result.now c.requires.period inv.same inside c.index_mut.ensures.value in
-    let are = pasts-for weeks i rosters c.loop-index.judged.penalty c.loop-index.pasts.items c.index_mut.result.now inv.judged next in
+    let next = next-week weeks c.loop-index.weeks.items c.index_mut.result.now c.requires.period inv.same c.index_mut.ensures.value (omega (arith, inside)) in
+    let are = pasts-for weeks i rosters c.loop-index.judged.penalty c.loop-index.pasts.items c.index_mut.result.now inv.judged next.numbers in
     let judged = (c.in-Ok.ensures.judged) (before weeks rosters) are in
     let few : i < 52 = omega (arith, inside, c.requires.period.count) in
     omega (arith, small-sum i c.loop-index.judged.penalty c.in-Ok.week.penalty few inv.judged.small judged.costs.small)
@@ -73,8 +73,8 @@ returns-in-Err-clause-reads g c =
     let rosters = c.loop-index.judged.rosters.items in
     let i = c.loop-index.index in
     let inside : i < length weeks = omega (arith, c.loop-index-test.true, c.len-count.ensures, c.args.weeks.now.ok.0) in
-    let next = next-week weeks c.loop-index.weeks.items i c.index_mut.result.now c.requires.period inv.same inside c.index_mut.ensures.value in
-    let are = pasts-for weeks i rosters c.loop-index.judged.penalty c.loop-index.pasts.items c.index_mut.result.now inv.judged next in
+    let next = next-week weeks c.loop-index.weeks.items c.index_mut.result.now c.requires.period inv.same c.index_mut.ensures.value (omega (arith, inside)) in
+    let are = pasts-for weeks i rosters c.loop-index.judged.penalty c.loop-index.pasts.items c.index_mut.result.now inv.judged next.numbers in
     let of_files : i < length c.args.files.now.items = omega (arith, inside, c.requires.count) in
     let reads = c.in-Err.ensures.reads in
     let count : c.len-count.result ≡ length weeks = c.len-count.ensures ∙ c.args.weeks.now.ok.0 in
@@ -93,8 +93,8 @@ loop-index-preserved g c =
     let rosters = c.loop-index.judged.rosters.items in
     let i = c.loop-index.index in
     let inside : i < length weeks = omega (arith, c.loop-index-test.true, c.len-count.ensures, c.args.weeks.now.ok.0) in
-    let next = next-week weeks c.loop-index.weeks.items i c.index_mut.result.now c.requires.period inv.same inside c.index_mut.ensures.value in
-    let are = pasts-for weeks i rosters c.loop-index.judged.penalty c.loop-index.pasts.items c.index_mut.result.now inv.judged next in
+    let next = next-week weeks c.loop-index.weeks.items c.index_mut.result.now c.requires.period inv.same c.index_mut.ensures.value (omega (arith, inside)) in
+    let are = pasts-for weeks i rosters c.loop-index.judged.penalty c.loop-index.pasts.items c.index_mut.result.now inv.judged next.numbers in
     let of_files : i < length c.args.files.now.items = omega (arith, inside, c.requires.count) in
     let reads = c.in-Ok.ensures.reads in
     let judged = (c.in-Ok.ensures.judged) (before weeks rosters) are in
@@ -109,7 +109,7 @@ loop-index-preserved g c =
           rw pushed (judges-more weeks i rosters c.loop-index.judged.penalty c.loop-index.pasts.items inv.judged
           c.index_mut.result.now
           next.here next.numbers c.in-Ok.week.roster c.in-Ok.week judged);
-      same = rw (c.in-Ok.ensures.same, c.index_mut.ensures.value) (set-get_or c.loop-index.weeks.items i c.index_mut.result.now ∙ inv.same);
+      same = rw (c.in-Ok.ensures.same, c.index_mut.ensures.value) (set-get_or c.loop-index.weeks.items _ c.index_mut.result.now ∙ inv.same);
       count = omega (arith, c.push_reserved.ensures.len, inv.count);
       room = omega (arith, c.push_reserved.ensures.capacity, inv.room);
     }

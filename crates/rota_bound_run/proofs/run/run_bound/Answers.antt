@@ -9,34 +9,26 @@ use Rattle.rota_bound_run.proofs.run.run_bound.Goals as goal
 
 pub returns-in_err-ward : goal.returns-in_err-ward
 unfolding bound_run
-returns-in_err-ward g c = record {
-  kept = record { weeks = refl; given = refl; proof = refl; rosters = refl };
-  ends = stopped_by _ _ c.from_residual.ensures.1 (_, refl, c.in_err-ward.ensures.reads) (left-weeks g.S.Source c.args.files.now c.args.out.now c.args.question.early);
-}
+returns-in_err-ward g c =
+    stopped_by _ _ c.from_residual.ensures.1 (_, refl, c.in_err-ward.ensures.reads)
+    (left-weeks g.S.Source c.args.files.now c.args.out.now c.args.question.early)
 
 pub returns-in_err-weeks : goal.returns-in_err-weeks
 unfolding bound_run
-returns-in_err-weeks g c = record {
-  kept = record { weeks = c.in_err-weeks.ensures.kept; given = refl; proof = refl; rosters = refl };
-  ends =
-      went_on c.in_ok-ward.ward c.in_ok-ward.ensures.reads
-      (stopped_by _ _ c.from_residual-in_err-weeks.ensures.1 c.in_err-weeks.ensures.reads
-      (left-given g.S.Source c.args.files.now c.args.out.now c.in_ok-ward.ward.scenario));
-}
+returns-in_err-weeks g c =
+    went_on c.in_ok-ward.ward c.in_ok-ward.ensures.reads
+    (stopped_by _ _ c.from_residual-in_err-weeks.ensures.1 c.in_err-weeks.ensures.reads
+    (left-given g.S.Source c.args.files.now c.args.out.now c.in_ok-ward.ward.scenario))
 
 pub returns-in_err-given : goal.returns-in_err-given
 unfolding bound_run
 returns-in_err-given g c =
     let weeks = c.in_ok-weeks.weeks.items in
     let count : c.len-count.result ≡ length weeks = c.len-count.ensures ∙ c.in_ok-weeks.weeks.ok.0 in
-    record {
-      kept = record { weeks = c.in_ok-weeks.ensures.kept; given = c.in_err-given.ensures.kept; proof = refl; rosters = refl };
-      ends =
-          went_on c.in_ok-ward.ward c.in_ok-ward.ensures.reads
-          (went_on weeks c.in_ok-weeks.ensures.reads
-          (stopped_by _ _ c.from_residual-in_err-given.ensures.1 (_, refl, given-for-all _ _ _ count c.in_err-given.ensures.reads)
-          (left-proof g.S.Source c.args.files.now c.args.out.now c.in_ok-ward.ward.scenario weeks)));
-    }
+    went_on c.in_ok-ward.ward c.in_ok-ward.ensures.reads
+    (went_on weeks c.in_ok-weeks.ensures.reads
+    (stopped_by _ _ c.from_residual-in_err-given.ensures.1 (_, refl, given-for-all _ _ _ count c.in_err-given.ensures.reads)
+    (left-proof g.S.Source c.args.files.now c.args.out.now c.in_ok-ward.ward.scenario weeks)))
 
 pub returns-in_err-certificate : goal.returns-in_err-certificate
 unfolding bound_run
@@ -44,76 +36,45 @@ returns-in_err-certificate g c =
     let weeks = c.in_ok-weeks.weeks.items in
     let count : c.len-count.result ≡ length weeks = c.len-count.ensures ∙ c.in_ok-weeks.weeks.ok.0 in
     let given = given_of c.in_ok-given.given in
-    record {
-      kept = record { weeks = c.in_ok-weeks.ensures.kept; given = c.in_ok-given.ensures.kept; proof = c.in_err-certificate.ensures.kept; rosters = refl };
-      ends =
-          went_on c.in_ok-ward.ward c.in_ok-ward.ensures.reads
-          (went_on weeks c.in_ok-weeks.ensures.reads
-          (went_on given (given-for-all _ _ _ count c.in_ok-given.ensures.reads)
-          (stopped_by _ _ c.from_residual-in_err-certificate.ensures.1 (_, refl, proof-for-all _ _ _ count c.in_err-certificate.ensures.reads)
-          (left-rosters g.S.Source c.args.files.now c.args.out.now weeks given))));
-    }
+    went_on c.in_ok-ward.ward c.in_ok-ward.ensures.reads
+    (went_on weeks c.in_ok-weeks.ensures.reads
+    (went_on given (given-for-all _ _ _ count c.in_ok-given.ensures.reads)
+    (stopped_by _ _ c.from_residual-in_err-certificate.ensures.1 (_, refl, proof-for-all _ _ _ count c.in_err-certificate.ensures.reads)
+    (left-rosters g.S.Source c.args.files.now c.args.out.now weeks given))))
 
 pub returns-in_err-judged : goal.returns-in_err-judged
 unfolding bound_run
 returns-in_err-judged g c =
     let count : c.len-count.result ≡ length c.in_ok-weeks.weeks.items = c.len-count.ensures ∙ c.in_ok-weeks.weeks.ok.0 in
-    record {
-      kept = record {
-        weeks = c.in_ok-weeks.ensures.kept;
-        given = c.in_ok-given.ensures.kept;
-        proof = c.in_ok-certificate.ensures.kept;
-        rosters = c.in_err-judged.ensures.count;
-      };
-      ends =
-          went_on c.in_ok-ward.ward c.in_ok-ward.ensures.reads
-          (went_on c.in_ok-weeks.weeks.items c.in_ok-weeks.ensures.reads
-          (went_on (given_of c.in_ok-given.given) (given-for-all _ _ _ count c.in_ok-given.ensures.reads)
-          (went_on c.in_ok-certificate.certificate (proof-for-all _ _ _ count c.in_ok-certificate.ensures.reads)
-          (stopped_by _ _ c.from_residual-in_err-judged.ensures.1 c.in_err-judged.ensures.reads
-          (left-answer g.S.Source c.args.files.now c.args.out.now)))));
-    }
+    went_on c.in_ok-ward.ward c.in_ok-ward.ensures.reads
+    (went_on c.in_ok-weeks.weeks.items c.in_ok-weeks.ensures.reads
+    (went_on (given_of c.in_ok-given.given) (given-for-all _ _ _ count c.in_ok-given.ensures.reads)
+    (went_on c.in_ok-certificate.certificate (proof-for-all _ _ _ count c.in_ok-certificate.ensures.reads)
+    (stopped_by _ _ c.from_residual-in_err-judged.ensures.1 c.in_err-judged.ensures.reads
+    (left-answer g.S.Source c.args.files.now c.args.out.now)))))
 
 pub returns-in_err-answer : goal.returns-in_err-answer
 unfolding bound_run
 returns-in_err-answer g c =
     let count : c.len-count.result ≡ length c.in_ok-weeks.weeks.items = c.len-count.ensures ∙ c.in_ok-weeks.weeks.ok.0 in
-    record {
-      kept = record {
-        weeks = c.in_ok-weeks.ensures.kept;
-        given = c.in_ok-given.ensures.kept;
-        proof = c.in_ok-certificate.ensures.kept;
-        rosters = c.in_ok-judged.ensures.count;
-      };
-      ends =
-          went_on c.in_ok-ward.ward c.in_ok-ward.ensures.reads
-          (went_on c.in_ok-weeks.weeks.items c.in_ok-weeks.ensures.reads
-          (went_on (given_of c.in_ok-given.given) (given-for-all _ _ _ count c.in_ok-given.ensures.reads)
-          (went_on c.in_ok-certificate.certificate (proof-for-all _ _ _ count c.in_ok-certificate.ensures.reads)
-          (went_on c.in_ok-judged.judged c.in_ok-judged.ensures.reads
-          (stopped_by _ _ c.from_residual-in_err-answer.ensures.1 refl (λ answer. refl))))));
-    }
+    went_on c.in_ok-ward.ward c.in_ok-ward.ensures.reads
+    (went_on c.in_ok-weeks.weeks.items c.in_ok-weeks.ensures.reads
+    (went_on (given_of c.in_ok-given.given) (given-for-all _ _ _ count c.in_ok-given.ensures.reads)
+    (went_on c.in_ok-certificate.certificate (proof-for-all _ _ _ count c.in_ok-certificate.ensures.reads)
+    (went_on c.in_ok-judged.judged c.in_ok-judged.ensures.reads
+    (stopped_by _ _ c.from_residual-in_err-answer.ensures.1 refl (λ answer. refl))))))
 
 pub returns : goal.returns
 unfolding bound_run
 returns g c =
     let count : c.len-count.result ≡ length c.in_ok-weeks.weeks.items = c.len-count.ensures ∙ c.in_ok-weeks.weeks.ok.0 in
     let weeks : c.deref.result.now ≡ c.in_ok-weeks.weeks.items = c.deref.ensures.value ∙ c.in_ok-judged.ensures.same in
-    record {
-      kept = record {
-        weeks = c.in_ok-weeks.ensures.kept;
-        given = c.in_ok-given.ensures.kept;
-        proof = c.in_ok-certificate.ensures.kept;
-        rosters = c.in_ok-judged.ensures.count;
-      };
-      ends =
-          went_on c.in_ok-ward.ward c.in_ok-ward.ensures.reads
-          (went_on c.in_ok-weeks.weeks.items c.in_ok-weeks.ensures.reads
-          (went_on (given_of c.in_ok-given.given) (given-for-all _ _ _ count c.in_ok-given.ensures.reads)
-          (went_on c.in_ok-certificate.certificate (proof-for-all _ _ _ count c.in_ok-certificate.ensures.reads)
-          (went_on c.in_ok-judged.judged c.in_ok-judged.ensures.reads
-          (went_on c.in_ok-answer.answer (rw (weeks, c.deref-2.ensures.value) at c.in_ok-answer.ensures) c.send_answer.ensures)))));
-    }
+    went_on c.in_ok-ward.ward c.in_ok-ward.ensures.reads
+    (went_on c.in_ok-weeks.weeks.items c.in_ok-weeks.ensures.reads
+    (went_on (given_of c.in_ok-given.given) (given-for-all _ _ _ count c.in_ok-given.ensures.reads)
+    (went_on c.in_ok-certificate.certificate (proof-for-all _ _ _ count c.in_ok-certificate.ensures.reads)
+    (went_on c.in_ok-judged.judged c.in_ok-judged.ensures.reads
+    (went_on c.in_ok-answer.answer (rw (weeks, c.deref-2.ensures.value) at c.in_ok-answer.ensures) c.send_answer.ensures)))))
 
 pub overflow_cast-count : goal.overflow_cast-count
 overflow_cast-count g c =

@@ -22,4 +22,4 @@ returns-clause-reads g c =
 pub returns-clause-week : goal.returns-clause-week
 returns-clause-week g c =
     is-week-at c.args.early c.args.ward.now c.args.later c.in_ok-week.week c.in_ok-instance.instance c.hold_cells.result
-    c.in_ok-instance.ensures.0 c.hold_cells.ensures.like
+    c.in_ok-instance.ensures.0 c.in_ok-instance.ensures.1 c.hold_cells.ensures.like

@@ -1,4 +1,4 @@
-use Rattle.std.proofs.Common.{◌≡◌, ℕ, ◌+◌, ◌<◌, ap, ◌∙◌, refl, subst, sym, arith, List, [], ◌∷◌, length, length-append, Result}
+use Rattle.std.proofs.Common.{◌≡◌, ℕ, ◌+◌, ◌<◌, ap, ◌∙◌, subst, sym, arith, List, [], ◌∷◌, length, length-append, Result}
 use Rattle.std.proofs.lemmas.Result.{err_from_is_err_and}
 use Rattle.std.specs.Prelude.{Bool, slice_set}
 use Rattle.rota_core.specs.InstanceTables.{InstanceTables}
@@ -11,7 +11,6 @@ use Rattle.rota_bound_run.specs.WeeksRead.{AreWeeksFrom, IsWeekAt}
 use Rattle.rota_bound_run.specs.declared.files.WeekFiles.{WeekFiles}
 use Rattle.rota_bound_run.specs.declared.ward.Ward.{Ward}
 use Rattle.rota_bound_run.proofs.InTurn.{length-each, reads-all, reads-more, reads-none, stops-at}
-use Rattle.rota_bound_run.proofs.KeptFiles.{keeps-more}
 use Rattle.rota_bound_run.proofs.PeriodWeeks.{weeks-more}
 use Rattle.rota_bound_run.proofs.WeekSteps.{lacks-memory, reads-no-week, reads-week, stops-week}
 use Rattle.rota_bound_run.proofs.weeks.read_weeks.Goals as goal
@@ -32,13 +31,7 @@ loop-index-init g c = record {
       (week_readers g.S.Source) [] c.args.files.now.items);
   weeks = rw c.new-weeks.ensures.items tt;
   number = ap length c.new-weeks.ensures.items;
-  kept = refl;
 }
-
-pub returns-in_err-push-in-Ok-clause-kept : goal.returns-in_err-push-in-Ok-clause-kept
-returns-in_err-push-in-Ok-clause-kept g c =
-    keeps-more c.args.files.now.items c.loop-index.files.items c.loop-index.index c.index_mut.result.now c.read_period_week.new.files
-    c.loop-index.invariant.kept c.index_mut.ensures.value c.in-Ok.ensures.kept
 
 pub returns-in_err-push-in-Ok-clause-reads : goal.returns-in_err-push-in-Ok-clause-reads
 returns-in_err-push-in-Ok-clause-reads g c =
@@ -54,11 +47,6 @@ returns-in_err-push-in-Ok-clause-reads g c =
     (reads-no-week g.S.Source c.args.early c.args.ward.now (length c.args.files.now.items)) _
     (lacks-memory g.S.Source c.args.early c.args.ward.now (length c.args.files.now.items) c.loop-index.weeks.items i inv.number
     c.index_mut.result.now c.read_period_week.new.files c.in-Ok.week c.in-Ok.ensures.reads)))
-
-pub returns-in-Err-clause-kept : goal.returns-in-Err-clause-kept
-returns-in-Err-clause-kept g c =
-    keeps-more c.args.files.now.items c.loop-index.files.items c.loop-index.index c.index_mut.result.now c.read_period_week.new.files
-    c.loop-index.invariant.kept c.index_mut.ensures.value c.in-Err.ensures.kept
 
 pub returns-in-Err-clause-reads : goal.returns-in-Err-clause-reads
 returns-in-Err-clause-reads g c =
@@ -93,9 +81,6 @@ loop-index-preserved g c =
           rw pushed (weeks-more c.args.early c.args.ward.now 0 c.loop-index.weeks.items c.in-Ok.week inv.weeks
           (subst (λ (n : ℕ). IsWeekAt c.args.early c.args.ward.now n c.in-Ok.week) there c.in-Ok.ensures.week));
       number = ap length pushed ∙ length-append c.loop-index.weeks.items (c.in-Ok.week ∷ []) ∙ ap (λ (n : ℕ). n + 1) inv.number;
-      kept =
-          keeps-more c.args.files.now.items c.loop-index.files.items i c.index_mut.result.now c.read_period_week.new.files inv.kept
-          c.index_mut.ensures.value c.in-Ok.ensures.kept;
     }
 
 pub returns-clause-reads : goal.returns-clause-reads

@@ -1,5 +1,5 @@
 use Rattle.std.proofs.Common.{◌≡◌, [], length}
-use Rattle.rota_bound_run.specs.PeriodFiles.{KeepWeeks, week_readers}
+use Rattle.rota_bound_run.specs.PeriodFiles.{week_readers}
 use Rattle.rota_bound_run.specs.PeriodRead.{read_next}
 use Rattle.rota_bound_run.specs.WeeksRead.{AreWeeksFrom}
 use Rattle.rota_bound_run.proofs.InTurn.{Reads}
@@ -13,5 +13,4 @@ invariant-loop-index g l =
       reads : Reads (read_next w.early w.ward (length w.files.items)) (week_readers g.S.Source) [] w.files.items l.index l.files.items l.weeks.items;
       weeks : AreWeeksFrom w.early w.ward 0 l.weeks.items;
       number : length l.weeks.items ≡ l.index;
-      kept : KeepWeeks w.files.items l.files.items;
     }
