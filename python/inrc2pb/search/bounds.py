@@ -11,7 +11,7 @@ from typing import Callable, List, Optional, Sequence
 from ..judging.days_away import DaysAway
 from ..programs.clock import Clock, TimeIsOver
 from ..programs.processes import Processes
-from ..programs.program import WeekFiles, find_program, run_unless_stopped
+from ..programs.program import NotInTime, WeekFiles, find_program, run_unless_stopped
 from ..rows.case_pricing import CasePricing
 from ..rows.certificate import Certificate
 from ..rows.plan import FREE, STRICT, Calls, Keeping, Plan, Points
@@ -80,19 +80,25 @@ class Prover:
                 write_text(facts, facts_text(name, given))
                 words = [*options, PROOF, str(proof), *(["--given", str(facts)] if given else [])]
                 return run_unless_stopped(self._program, words, seconds, self._processes)
+        except NotInTime as late:
+            # After a stop a proof gets two seconds: that it is cut is no fault of the program.
+            self._give_up(f"{late}, so bounds are computed in {PLAIN}")
         except (OSError, ProgramFault) as fault:
             # Someone may have removed the folder: a bound that was printed is not lost.
             self.fail(str(fault))
-            return None
+        return None
 
     def stop(self) -> None:
         """Ends a proof that runs, and the next ones."""
         self._processes.stop()
 
     def fail(self, fault: str) -> None:
-        """From now on the program has no answer."""
+        """From now on the program has no answer, because it failed."""
+        self._give_up(f"{PROVER} failed, so bounds are computed in {PLAIN}: {fault}")
+
+    def _give_up(self, why: str) -> None:
         self._program = None
-        self._warn(f"{PROVER} failed, so bounds are computed in {PLAIN}: {fault}")
+        self._warn(why)
 
 
 class Bounds:
