@@ -71,6 +71,16 @@ class Certified(unittest.TestCase):
             certify.PAGE.read_text(),
         )
 
+    def test_the_page_has_the_optima_beside_the_relaxations(self):
+        page = certify.PAGE.read_text()
+        head, _, relaxed, best = page[page.index("| | `first-12`") :].splitlines()[:4]
+        names, values, optima = (
+            [cell.strip(" `") for cell in line.split("|")[2:-1]] for line in (head, relaxed, best)
+        )
+        self.assertEqual(optima, [certify.rows()[name].best for name in names])
+        for value, optimum in zip(values, optima):
+            self.assertLessEqual(int(value), int(optimum))
+
     @unittest.skipUnless(find_prover(), "needs inrc2pb-bound")
     def test_the_programs_confirm_some(self):
         status, lines = checked(CERTIFIED, *CHECKED)
