@@ -52,7 +52,8 @@ TYPED = r"(bench|certified|tests/edits|tests/kit)/.*\.py|build\.py"
 # Scripts, each with the files whose changes it may notice.
 SCRIPTS = {
     "tests/pages/repository.sh": r"(crates|examples|bench|package|tests/pages|tests/edits|\.ci)/.*"
-    r"|python/(launcher|inrc2pb-).*|CHANGELOG.md|docs/(benchmark|install|serving|trusted)\.md|.*\.sh",
+    r"|python/(launcher|inrc2pb-).*|(CHANGELOG|CONTRIBUTING)\.md"
+    r"|docs/(benchmark|changing|install|layers|serving|trusted)\.md|.*\.sh",
     "tests/pages/reading.sh": r"crates/.*|docs/reading\.md|tests/pages/.*\.py",
     "tests/pages/guards.sh": r"tests/pages/.*\.py",
     "tests/pages/build.sh": r"build\.py",

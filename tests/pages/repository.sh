@@ -1,7 +1,8 @@
 #!/usr/bin/env bash
 # Checks facts that the repository states twice: the program, CHANGELOG.md and the Python package have the same version, the
 # generators write the example weeks, docs/install.md names this kit, and the examples of the libraries are their tests. Checks that
-# no crate uses lemmas of another that no list has, that no file forgets a soft rule, the shell scripts by shellcheck, if it is installed, and which files can be run.
+# no crate uses lemmas of another that no list has, that no file forgets a soft rule, that the pages for contributors name what is there, the
+# shell scripts by shellcheck, if it is installed, and which files can be run.
 #
 #   tests/pages/repository.sh [llvm | rattle | PROGRAM]
 #
@@ -126,6 +127,12 @@ rules_are_whole() {
     tests/pages/soft_rules.py > "$room/rules" || complain "$(head -n 40 "$room/rules")"
 }
 
+# Files, crates and numbers that the pages for contributors name.
+places_are_named() {
+    begins_case 'the places on the pages for contributors'
+    tests/pages/places.py > "$room/places" || complain "$(head -n 40 "$room/places")"
+}
+
 scripts_are_clean() {
     has shellcheck || return
     begins_case 'the scripts'
@@ -168,6 +175,7 @@ promises_are_guarded
 clauses_are_guarded
 answers_refuse_rightly
 rules_are_whole
+places_are_named
 scripts_are_clean
 scripts_are_executable
 finish
