@@ -229,8 +229,8 @@ def table(found: Dict[str, Row]) -> str:
             f"`{name}-{rest}`",
             str(len(rows_of_family)),
             *(
-                _range([getattr(row, of) for row in rows_of_family])
-                for of in ("nurses", "variables", "constraints")
+                _range([getattr(row, column) for row in rows_of_family])
+                for column in ("nurses", "variables", "constraints")
             ),
             str(sum(map(is_known, rows_of_family))),
             special,
