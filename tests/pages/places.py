@@ -52,14 +52,20 @@ def floors() -> Dict[str, int]:
 
 
 def misplaced_crates(named: Dict[str, Set[str]]) -> Iterator[str]:
-    """Crates that are not above those that they name, or that the page does not have."""
+    """Crates that are not above those that they name."""
     floor = floors()
-    for name, others in named.items():
-        if name not in floor and f"`{name}`" not in LAYERS:
+    pairs = ((name, other) for name in floor for other in named.get(name, ()))
+    for name, other in pairs:
+        if floor[name] >= floor.get(other, 0):
+            yield f"docs/layers.md does not draw {name} above {other}"
+
+
+def missing_crates(named: Dict[str, Set[str]]) -> Iterator[str]:
+    """Crates that the page does not have."""
+    drawn = floors()
+    for name in named:
+        if name not in drawn and f"`{name}`" not in LAYERS:
             yield f"docs/layers.md has no {name}"
-        for other in others:
-            if name in floor and floor[name] >= floor.get(other, 0):
-                yield f"docs/layers.md does not draw {name} above {other}"
 
 
 def wrong_numbers(named: Dict[str, Set[str]]) -> Iterator[str]:
@@ -93,17 +99,26 @@ def paths_in(cells: List[str]) -> List[str]:
     return re.findall(r"`([\w/-]+/[\w.-]+\.\w+)`", " ".join(cells))
 
 
-def wrong_rows() -> Iterator[str]:
-    """Files of tables that do not exist, and names that are in no file of their row."""
-    for cells in (line.split("|") for line in CHANGING.splitlines() if line.startswith("| ")):
-        yield from (
-            f"docs/changing.md: there is no {path}" for path in paths_in(cells) if not found(path)
-        )
-        paths = paths_in(cells[1:2])
-        text = "\n".join(file.read_text() for path in paths for file in found(path))
-        for name in re.findall(r"`([\w-]+)`", cells[2]) if text else ():
-            if not re.search(rf"(?<![\w-]){re.escape(name)}(?![\w-])", text):
-                yield f"docs/changing.md: {name} is in none of {', '.join(paths)}"
+def rows() -> List[List[str]]:
+    """The cells of the rows of tables, after an empty one."""
+    return [line.split("|") for line in CHANGING.splitlines() if line.startswith("| ")]
+
+
+def missing_files() -> Iterator[str]:
+    """Files of tables that do not exist."""
+    for path in (path for cells in rows() for path in paths_in(cells)):
+        if not found(path):
+            yield f"docs/changing.md: there is no {path}"
+
+
+def missing_names() -> Iterator[str]:
+    """Names beside files that are in none of these."""
+    pairs = ((cells[1], name) for cells in rows() for name in re.findall(r"`([\w-]+)`", cells[2]))
+    for files, name in pairs:
+        texts = [file.read_text() for path in paths_in([files]) for file in found(path)]
+        word = re.compile(rf"(?<![\w-]){re.escape(name)}(?![\w-])")
+        if texts and not any(map(word.search, texts)):
+            yield f"docs/changing.md: {name} is in none of {files.strip()}"
 
 
 def wrong_lists() -> Iterator[str]:
@@ -132,9 +147,11 @@ def main() -> int:
     named = crates()
     faults = [
         *misplaced_crates(named),
+        *missing_crates(named),
         *wrong_numbers(named),
         *wrong_printed(),
-        *wrong_rows(),
+        *missing_files(),
+        *missing_names(),
         *wrong_lists(),
         *wrong_quotes(),
     ]
