@@ -138,7 +138,7 @@ class Commands(unittest.TestCase):
         self.assertEqual(step.words, ["tests/kit/layout.sh", "rota_rules"])
 
     def test_a_crate_and_those_above_it(self):
-        lines = list(check.proof_lines(["crates/rota_rules/src/weights.rt"]))
+        lines = list(check.proof_lines(["crates/rota_rules/src/lib.rt"]))
         commands = [line.partition("#")[0].strip() for line in lines]
         self.assertEqual(commands, ["cd crates/rota_rules && rt check", "rt all check"])
 

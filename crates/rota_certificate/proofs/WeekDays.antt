@@ -17,15 +17,14 @@ use Rattle.rota_core.specs.declared.values.Span.{Span}
 use Rattle.rota_core.specs.Successions.{is_forbidden_after}
 use Rattle.rota_rules.specs.Runs.{day_cost}
 use Rattle.rota_rules.specs.Runs.{is_over, run_cost, run_over, run_under, run_length}
-use Rattle.rota_rules.specs.CompleteWeekends.{complete_weekend_cost_of}
 use Rattle.rota_rules.specs.ConsecutiveAssignments.{history_on, work_run_weight}
-use Rattle.rota_rules.specs.ConsecutiveDaysOff.{consecutive_day_off_cost_of, off_run_weight}
+use Rattle.rota_rules.specs.ConsecutiveDaysOff.{off_run_weight}
 use Rattle.rota_rules.specs.ShiftOffRequests.{request_weight}
 use Rattle.rota_certificate.specs.DayCharges.{assignment_above, choice_cost, is_shift, over_charge, past_after, run_charge, run_on, shift_charges, under_charge}
 use Rattle.rota_certificate.specs.DayCharges.{totals_cost, weekend_above, weekend_charge, weighted}
 use Rattle.rota_certificate.specs.Facts.{charges_in_week}
 use Rattle.rota_certificate.specs.NurseBounds.{LeafWeek, Terms, least_days}
-use Rattle.rota_certificate.specs.NurseCosts.{AllowsChoices, paid, requests_of}
+use Rattle.rota_certificate.specs.NurseCosts.{AllowsChoices, fixed_on_days, paid, weekend_cost}
 use Rattle.rota_certificate.specs.Plans.{history_after, sunday_shift}
 use Rattle.rota_certificate.specs.declared.tariffs.Tariff.{Tariff}
 use Rattle.rota_core.specs.Prices.{Prices, ArePrices, max_price}
@@ -151,17 +150,11 @@ module _ (problem : Problem) (prices : Prices) (roster : Roster) (n : ℕ) where
   over-are = sym (run_over-is (works problem roster n) start.work_run (problem.contract n).work)
 
   weekends-are : sum_below DAYS (λ d. weekend_charge (problem.contract n) d (worked_before problem prices roster n d) (works problem roster n d)) ≡
-      complete_weekend_cost_of problem roster n
+      weekend_cost problem roster n
   unfolding sum_below
   weekends-are = omega arith
 
-  -- the charges that no case limits, but for the assignments that are missing at the end
-  abbrev pub fixed_in_week : ℕ
-  fixed_in_week =
-      work_run_weight * run_under (works problem roster n) start.work_run (problem.contract n).work.min +
-      consecutive_day_off_cost_of problem roster n + request_weight * requests_of problem roster n + complete_weekend_cost_of problem roster n
-
-  pub fixed-are : sum_below DAYS (fixed_on problem prices roster n) ≡ fixed_in_week
+  pub fixed-are : sum_below DAYS (fixed_on problem prices roster n) ≡ fixed_on_days problem roster n
   fixed-are =
       let parts = sum-parts DAYS
       (λ d. under_charge (work_run_before problem prices roster n d) (works problem roster n d) (problem.contract n).work)
@@ -286,7 +279,7 @@ module _ (terms : Terms) (one : LeafWeek) (roster : Roster) (n : ℕ) (within : 
   pub days-bounded : (rest : Past → ℕ) →
       least_days terms one n rest DAYS first + paid problem prices roster n + grown_to first ≤
       terms.tariff.shift_runs * charges_in_week ShiftRuns problem roster n + terms.tariff.work_days * charges_in_week WorkDays problem roster n +
-      terms.unit * fixed_in_week problem prices roster n + grown_to (history_after problem roster n) + DAYS * max_price +
+      terms.unit * fixed_on_days problem roster n + grown_to (history_after problem roster n) + DAYS * max_price +
       rest (history_after problem roster n)
   days-bounded rest =
       let all = reached rest DAYS 0 (omega arith) in

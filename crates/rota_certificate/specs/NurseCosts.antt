@@ -24,12 +24,19 @@ abbrev pub requests_of : Problem → Roster → ℕ → ℕ
 requests_of week roster n =
     sum_below DAYS (λ d. sum_below week.shifts (λ s. sum_below week.skills (λ k. if roster (cell n d s k) then week.requests n d s else 0)))
 
--- the cost of the nurse in a week by the charges that no case limits, in points
-abbrev pub fixed_cost : Problem → Roster → (nurse : ℕ) → ℕ
-fixed_cost week roster n =
+-- the cost of the nurse's weekend
+abbrev pub weekend_cost : Problem → Roster → (nurse : ℕ) → ℕ
+weekend_cost week roster n = complete_weekend_cost_of week roster n
+
+-- the cost of the nurse's days by the charges that no case limits, in points
+abbrev pub fixed_on_days : Problem → Roster → (nurse : ℕ) → ℕ
+fixed_on_days week roster n =
     work_run_weight * run_under (works week roster n) (week.past n).work_run (week.contract n).work.min +
-    consecutive_day_off_cost_of week roster n + request_weight * requests_of week roster n + complete_weekend_cost_of week roster n +
-    assignment_weight * below_min_total week roster n
+    consecutive_day_off_cost_of week roster n + request_weight * requests_of week roster n + weekend_cost week roster n
+
+-- her cost in a week by the charges that no case limits, in points
+abbrev pub fixed_cost : Problem → Roster → (nurse : ℕ) → ℕ
+fixed_cost week roster n = fixed_on_days week roster n + assignment_weight * below_min_total week roster n
 
 -- her cost in a week by the charges that a case may limit
 abbrev pub tariff_cost : Tariff → Problem → Roster → (nurse : ℕ) → ℕ

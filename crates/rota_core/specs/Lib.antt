@@ -22,7 +22,6 @@ pub mod Roster
 pub mod RosterCalls
 pub mod RosterCells
 pub mod RosterTables
-pub mod RuleNames
 pub mod Rules
 pub mod ScenarioTables
 pub mod Sizes

@@ -1,7 +1,7 @@
 //! The rules of a week, under the names that the competition gives them.
 
 ghost use Rattle.std.specs.Prelude.{◌≡◌, Some};
-ghost use Rattle.rota_core.specs.RuleNames.{rule_name};
+ghost use Rattle.rota_core.specs.Rules.{rule_name};
 
 use std::fmt;
 

@@ -3,7 +3,7 @@ use Rattle.rota_items.proofs.Common.Imports.{◌≡◌, ℕ, ◌++◌, map, ap, 
 use Rattle.rota_items.proofs.Common.Imports.{Pattern, closed_patterns_at, closed_patterns_on, edge_patterns_on, patterns, patterns_on}
 use Rattle.rota_items.proofs.Common.Imports.{windows, windows_on, window_items_on, closed_items_at, pattern_items, pattern_items_on}
 use Rattle.rota_items.proofs.Common.Imports.{zero, suc, List, [], ◌∷◌, length, refl, arith, AllByRecursion, sum_by-cons, Problem, Rule}
-use Rattle.rota_items.proofs.Common.Imports.{Cell, nurse_items, items_of_rule, slack_count, S1, optimum_items, append-nil}
+use Rattle.rota_items.proofs.Common.Imports.{Cell, nurse_items, items_of_rule, slack_count, optimum_items, append-nil}
 use Rattle.rota_items.proofs.LogicWords.{map-concat_below}
 use Rattle.rota_items.proofs.EachPattern.{each-run_item}
 
@@ -37,12 +37,12 @@ none-concat_below {A} (suc n) = rw (← none-concat_below {A = A} n) refl
 pub none_of_nurses : {A : Type 0} (problem : Problem) (xs : List A) → xs ++ concat_below problem.nurses (λ _. []) ≡ xs
 none_of_nurses problem xs = rw (← none-concat_below problem.nurses) (append-nil xs)
 
-pub items_of_nurses : (problem : Problem) (rule : Rule) → (rule ≡ S1 → ⊥) →
+pub items_of_nurses : (problem : Problem) (rule : Rule) → (rule ≡ Rule.S1 → ⊥) →
     items_of_rule problem rule ≡ concat_below problem.nurses (nurse_items problem rule)
-items_of_nurses problem S1 other = absurd (other refl)
+items_of_nurses problem Rule.S1 other = absurd (other refl)
 items_of_nurses problem _ other = refl
 
-pub demand_items-are : (problem : Problem) (rule : Rule) → rule ≡ S1 → items_of_rule problem rule ≡ optimum_items problem
+pub demand_items-are : (problem : Problem) (rule : Rule) → rule ≡ Rule.S1 → items_of_rule problem rule ≡ optimum_items problem
 demand_items-are problem rule is = rw is (none_of_nurses problem (optimum_items problem))
 
 -- ---- items of one slack

@@ -1,7 +1,6 @@
 -- Bounds for the numbers of a week's model, which follow from the limits of its tables and from the rules' weights.
 use Rattle.std.specs.Prelude.{ℕ, ◌+◌, ◌-◌, ◌*◌, ◌^◌, max, sum_by}
 use Rattle.rota_core.specs.declared.rule.Rule.{Rule}
-use Rattle.rota_core.specs.declared.rule.Rule.TheVariants.{S1, S2, S6, S7}
 use Rattle.rota_core.specs.Rules.{soft_rules}
 use Rattle.rota_core.specs.Limits.{max_nurses, max_number, max_shifts}
 use Rattle.rota_core.specs.Sizes.{DAYS}
@@ -23,12 +22,12 @@ abbrev pub max_run_items : ℕ
 max_run_items = DAYS * (1 + DAYS)
 
 abbrev pub max_items_of_nurse : Rule → ℕ
-max_items_of_nurse S2 = (max_shifts + 1) * max_run_items
+max_items_of_nurse Rule.S2 = (max_shifts + 1) * max_run_items
 max_items_of_nurse _ = max_run_items
 
 -- a bound for the number of items of each soft rule
 abbrev pub max_items : Rule → ℕ
-max_items S1 = max_cells_of_nurse
+max_items Rule.S1 = max_cells_of_nurse
 max_items rule = max_nurses * max_items_of_nurse rule
 
 -- ---- weights
@@ -39,8 +38,8 @@ max_weight = max_unit_weight * max_number
 
 -- a bound for a nurse's part of the constant
 abbrev pub max_constant_of_nurse : Rule → ℕ
-max_constant_of_nurse S6 = assignment_weight * ((max_number - DAYS) + max_number)
-max_constant_of_nurse S7 = worked_weekend_weight * max_number
+max_constant_of_nurse Rule.S6 = assignment_weight * ((max_number - DAYS) + max_number)
+max_constant_of_nurse Rule.S7 = worked_weekend_weight * max_number
 max_constant_of_nurse _ = 0
 
 abbrev pub max_constant_of_rule : Rule → ℕ

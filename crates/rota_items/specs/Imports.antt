@@ -1,7 +1,7 @@
 -- Names for the definitions of models: of numbers and lists, weeks, rosters and rules.
 pub use Rattle.rota_rules.specs.Imports.{ℕ, nat_le, nat_lt, Bool, false, not, List, count_by, sum_by, range_with_len, sum_below}
 pub use Rattle.rota_rules.specs.Imports.{count_below, DAYS, Problem, Roster, cell, InWeek, works, is_on, is_off, nurses_at, KeepsHardRules}
-pub use Rattle.rota_rules.specs.Imports.{soft_rules, Cell, Span, Rule, S1, S2, S3, S4, S5, S6, S7}
+pub use Rattle.rota_rules.specs.Imports.{soft_rules, Cell, Span, Rule}
 pub use Rattle.std.specs.Prelude.{min, ℤ, int_le, pos, negsuc, true}
 pub use Rattle.std.specs.Prelude.{[], map, flat_map, length, Option, Some, None}
 pub use Rattle.std.specs.List.{list_any}

@@ -2,7 +2,6 @@
 use Rattle.std.specs.Prelude.{◌*◌, ◌+◌, ◌+ℤ◌}
 use Rattle.rota_items.specs.Imports.{ℕ, ℤ, pos, Bool, List, sum_by, Rule, Roster, Problem, sum_below}
 use Rattle.rota_core.specs.HardRules.{KeepsMinimum, KeepsOneCell}
-use Rattle.rota_core.specs.declared.rule.Rule.TheVariants.{S1, S4}
 use Rattle.rota_items.specs.Rows.{shortage, Item, value_of}
 use Rattle.rota_items.specs.rules.TotalAssignments.{assignment_constant_of}
 use Rattle.rota_items.specs.rules.WorkedWeekends.{weekend_constant_of}
@@ -21,8 +20,8 @@ model_cost problem roster rule =
 
 -- the condition under which a rule's charge is its cost: H2 for S1, none for S4, H1 for the other rules
 abbrev pub IsChargedOn : Problem → Roster → Rule → Type 0
-IsChargedOn problem roster S1 = KeepsMinimum problem roster
-IsChargedOn problem roster S4 = Unit {0}
+IsChargedOn problem roster Rule.S1 = KeepsMinimum problem roster
+IsChargedOn problem roster Rule.S4 = Unit {0}
 IsChargedOn problem roster _ = KeepsOneCell problem roster
 
 -- the two parts of the constant

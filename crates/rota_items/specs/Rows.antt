@@ -5,7 +5,7 @@ pub use Rattle.rota_core.specs.RosterCells.{cell_at, cells_of}
 pub use Rattle.rota_items.specs.declared.part.Part.{Part}
 pub use Rattle.rota_items.specs.declared.part.Part.TheVariants.{Hard, Objective, Soft}
 pub use Rattle.rota_items.specs.Linear.{Term, value_of, Constraint, Model}
-pub use Rattle.rota_items.specs.Imports.{DAYS, ℕ, ℤ, Bool, int_le, List, pos, negsuc, Rule, [], Cell, Problem, cell, map, S1, nat_lt, S6, min}
+pub use Rattle.rota_items.specs.Imports.{DAYS, ℕ, ℤ, Bool, int_le, List, pos, negsuc, Rule, [], Cell, Problem, cell, map, nat_lt, min}
 
 -- a row of the model: its part (the objective, or the constraint's rule), its terms and its degree
 pub record LinearRow (X : Type 0) : Type 0 where

@@ -1,8 +1,8 @@
 -- The charges of the model for the soft rules: items, the constant, and terms on cells.
 use Rattle.std.specs.Prelude.{◌++◌, ℕ, Bool, List, [], flat_map}
 use Rattle.std.specs.List.{list_any}
-use Rattle.rota_core.specs.RuleNames.{is_rule}
-use Rattle.rota_items.specs.Imports.{sum_by, Rule, Cell, Problem, sum_below, soft_rules, Option, Some, None, S1, S2, S3, S4, S5, S6, S7}
+use Rattle.rota_core.specs.Rules.{is_rule}
+use Rattle.rota_items.specs.Imports.{sum_by, Rule, Cell, Problem, sum_below, soft_rules, Option, Some, None}
 use Rattle.rota_items.specs.Rows.{concat_below, Item, Term}
 use Rattle.rota_items.specs.rules.CompleteWeekends.{complete_weekends_of}
 use Rattle.rota_items.specs.rules.ConsecutiveAssignments.{assignment_runs_of}
@@ -33,13 +33,13 @@ no_charge = record {
 
 -- the soft rules, each with its charge; no other rule has one
 abbrev pub charge_of : Rule → Option Charge
-charge_of S1 = Some (record no_charge { day_items = optimum_items })
-charge_of S2 = Some (record no_charge { nurse_items = assignment_runs_of })
-charge_of S3 = Some (record no_charge { nurse_items = days_off_runs_of })
-charge_of S4 = Some (record no_charge { cell_terms = request_terms })
-charge_of S5 = Some (record no_charge { nurse_items = complete_weekends_of })
-charge_of S6 = Some (record no_charge { nurse_items = totals_of; nurse_constant = assignment_constant_of })
-charge_of S7 = Some (record no_charge { nurse_items = worked_weekends_of; nurse_constant = weekend_constant_of })
+charge_of Rule.S1 = Some (record no_charge { day_items = optimum_items })
+charge_of Rule.S2 = Some (record no_charge { nurse_items = assignment_runs_of })
+charge_of Rule.S3 = Some (record no_charge { nurse_items = days_off_runs_of })
+charge_of Rule.S4 = Some (record no_charge { cell_terms = request_terms })
+charge_of Rule.S5 = Some (record no_charge { nurse_items = complete_weekends_of })
+charge_of Rule.S6 = Some (record no_charge { nurse_items = totals_of; nurse_constant = assignment_constant_of })
+charge_of Rule.S7 = Some (record no_charge { nurse_items = worked_weekends_of; nurse_constant = weekend_constant_of })
 charge_of _ = None
 
 -- the charge if there is one, otherwise `no_charge`

@@ -1,7 +1,7 @@
 -- The windows and patterns that charge runs, as days that must have a property or must not, and their items.
 use Rattle.std.specs.Prelude.{◌+◌, ◌-◌, ◌*◌, ◌&&◌, ◌-ℤ◌, if◌then◌else◌, ◌∷◌, ◌++◌, ℕ, pos, negsuc, Bool, true, false}
 pub use Rattle.rota_items.specs.Imports.{DAYS, not, nat_le, nat_lt, List, [], map, flat_map, range_with_len, count_by, Cell, Rule, Span}
-pub use Rattle.rota_items.specs.Imports.{Problem, S2, ℕ, S3, S5, true, S7, false}
+pub use Rattle.rota_items.specs.Imports.{Problem, ℕ, true, false}
 pub use Rattle.rota_items.specs.Rows.{Term, times, Item, concat_below, singleton_if, work_cells, on_cells}
 
 -- a day, and whether it must have the property

@@ -2,7 +2,7 @@
 use Rattle.rota_judge.proofs.Common.Imports.{◌≡◌, ℕ, ◌+◌, ◌-◌, ◌*◌, ◌≤◌, Bool, List, [], ◌∷◌, ◌++◌, map, refl, sym, ap, subst, ◌∙◌, arith, pos}
 use Rattle.rota_judge.proofs.Common.Imports.{if◌then◌else◌, AllByRecursion, fold, ints, soft_rules, Problem, Rule, unit_number, weighted_shortages}
 use Rattle.rota_judge.proofs.Common.Imports.{IsWithinLimits, value_of, objective_rows, cell_terms_of_rule, model_cost, constant, constant_of_rule}
-use Rattle.rota_judge.proofs.Common.Imports.{items_of_rule, objective_terms, rows_of, InstanceTables, IsInstance, problem_of, S4, Tally, Event}
+use Rattle.rota_judge.proofs.Common.Imports.{items_of_rule, objective_terms, rows_of, InstanceTables, IsInstance, problem_of, Tally, Event}
 use Rattle.rota_judge.proofs.Common.Imports.{events, Subject, JudgeState, assignment_in, roster_in, capped, counts_for, fresh, judged, no_tally}
 use Rattle.rota_judge.proofs.Common.Imports.{tallied, WasDriven, with_constants, with_cost, request_cost, Judges}
 use Rattle.rota_rules.proofs.CostLemmas.{instance-within_limits}
@@ -19,7 +19,7 @@ objective_in tally = capped (tally.requests_and_constant + tally.slacks)
 
 -- the costs of the rules in the tally, if the objective has this value at the unit variable
 abbrev pub costs_in : Problem → Tally → ℕ → List ℕ
-costs_in problem tally at_unit = with_constants problem soft_rules (with_cost S4 (tally.requests_and_constant - at_unit) tally.shortages)
+costs_in problem tally at_unit = with_constants problem soft_rules (with_cost Rule.S4 (tally.requests_and_constant - at_unit) tally.shortages)
 
 abbrev pub at_unit_in : Problem → Subject → ℕ
 at_unit_in problem subject = if counts_for problem subject (unit_number problem) then constant problem else 0
@@ -34,13 +34,13 @@ module _ (problem : Problem) (within : IsWithinLimits problem) (subject : Subjec
   requests = request_cost problem (roster_in problem subject)
 
   cells-charged : (rule : Rule) →
-      (value_of (roster_in problem subject) (cell_terms_of_rule problem rule) ≡ pos (same S4 rule * requests)) × (same S4 rule * requests ≤ requests)
-  cells-charged S4 = (omega (arith, ints, value_of-request_terms problem (roster_in problem subject)), omega arith)
+      (value_of (roster_in problem subject) (cell_terms_of_rule problem rule) ≡ pos (same Rule.S4 rule * requests)) × (same Rule.S4 rule * requests ≤ requests)
+  cells-charged Rule.S4 = (omega (arith, ints, value_of-request_terms problem (roster_in problem subject)), omega arith)
   cells-charged _ = (omega (arith, ints), omega arith)
 
   -- the final charge of each rule
   abbrev at_last : Rule → ℕ
-  at_last rule = capped (capped (charges problem subject rule + same S4 rule * requests) + constant_of_rule problem rule)
+  at_last rule = capped (capped (charges problem subject rule + same Rule.S4 rule * requests) + constant_of_rule problem rule)
 
   charged-last : (rule : Rule) → StandsOnce rule → pos (at_last rule) ≡ model_cost problem (roster_in problem subject) rule
   charged-last rule once =
@@ -68,9 +68,9 @@ module _ (problem : Problem) (within : IsWithinLimits problem) (subject : Subjec
         few problem subject within,
         ap (λ (b : Bool). if b then constant problem else 0) (counts-before problem subject (unit_number problem) (omega arith)),
       ) in
-      (λ i. with_constants problem soft_rules (with_cost S4 (own i) (before_is i))) ∙
-      ap (with_constants problem soft_rules) (cost-raised S4 requests before) ∙
-      (λ i. with_constants problem soft_rules (costs_of (λ rule. are rule i + same S4 rule * requests)))
+      (λ i. with_constants problem soft_rules (with_cost Rule.S4 (own i) (before_is i))) ∙
+      ap (with_constants problem soft_rules) (cost-raised Rule.S4 requests before) ∙
+      (λ i. with_constants problem soft_rules (costs_of (λ rule. are rule i + same Rule.S4 rule * requests)))
 
 pub driven-judges : (judge_state : JudgeState) → IsInstance judge_state.instance → WasDriven judge_state → (objective : ℕ) (costs : List ℕ) →
     objective ≡ objective_in judge_state.tally →

@@ -2,12 +2,12 @@
 use Rattle.rota_judge.proofs.Common.Imports.{◌≡◌, ◌↔◌, ℕ, ◌+◌, Bool, true, false, ◌⊎◌, inl, inr, List, [], ◌∷◌, map, map-id, map-map, sym, ap, ◌∙◌}
 use Rattle.rota_judge.proofs.Common.Imports.{arith, rules, Some, None, pos, if◌then◌else◌, IfSome, MatchOption, AllByRecursion, All-from_recursion}
 use Rattle.rota_judge.proofs.Common.Imports.{recursion_from_All, cases_Bool, ints, sum, drop, refl, not, list_all, and_parts, true≢false, IsSomeAnd}
-use Rattle.rota_judge.proofs.Common.Imports.{KeepsCompetitionRules, KeepsHardRules, KeepsOneCell, S1, S4, FirstBroken, InWeek, Roster, set_of}
+use Rattle.rota_judge.proofs.Common.Imports.{KeepsCompetitionRules, KeepsHardRules, KeepsOneCell, FirstBroken, InWeek, Roster, set_of}
 use Rattle.rota_judge.proofs.Common.Imports.{soft_rules, Problem, Rule, Cell, cell_number, first_slack, unit_number, Item, numbered, positive_part}
 use Rattle.rota_judge.proofs.Common.Imports.{Satisfies, SatisfiesModel, LinearRow, item_rows, model_cost, rule_cost, soft_items, extension_of, model_of}
 use Rattle.rota_judge.proofs.Common.Imports.{numbered_items, rows_of, first_unmet, later, truth_of, H1, is_soft, Verdict, Subject, SettlesModel}
 use Rattle.rota_judge.proofs.Common.Imports.{assigned, assignment_in, extended, roster_in, CostsTheRules, ExtendsToModel, IsMet, Judges, JudgesTheRules}
-use Rattle.rota_core.specs.RuleNames.{is_rule}
+use Rattle.rota_core.specs.Rules.{is_rule}
 use Rattle.rota_judge.proofs.Extension.{extension-objective, extension-satisfies, extension-unit, satisfying-keeps, satisfying-objective, extension-roster}
 use Rattle.rota_judge.proofs.FirstUnmet.{Decided, Named, first_unmet-decides, hard-first_broken}
 use Rattle.rota_items.proofs.ItemLemmas.{SoftItem, charged_on, soft_items-soft, sound-rule}
@@ -44,16 +44,16 @@ module _ (problem : Problem) (assignment : ℕ → Bool) (roster : Roster) (verd
   charged-rules (rule ∷ rules) all = λ i. positive_part ((sound-rule problem rule).charges roster all.0 i) ∷ charged-rules rules all.1 i
 
   -- all rules but S1 ask for one cell a day
-  later-charged : KeepsOneCell problem roster → (rules : List Rule) → list_all (λ rule. not (is_rule S1 rule)) rules ≡ true →
+  later-charged : KeepsOneCell problem roster → (rules : List Rule) → list_all (λ rule. not (is_rule Rule.S1 rule)) rules ≡ true →
       AllByRecursion (IsChargedOn problem roster) rules
   later-charged one [] others = tt
   later-charged one (rule ∷ rules) others =
-      let both = and_parts (not (is_rule S1 rule)) (list_all (λ rule. not (is_rule S1 rule)) rules) others in
+      let both = and_parts (not (is_rule Rule.S1 rule)) (list_all (λ rule. not (is_rule Rule.S1 rule)) rules) others in
       (on-rule rule both.0, later-charged one rules both.1)
     where
-      on-rule : (rule : Rule) → not (is_rule S1 rule) ≡ true → IsChargedOn problem roster rule
-      on-rule S1 other = absurd (true≢false (sym other))
-      on-rule S4 other = tt
+      on-rule : (rule : Rule) → not (is_rule Rule.S1 rule) ≡ true → IsChargedOn problem roster rule
+      on-rule Rule.S1 other = absurd (true≢false (sym other))
+      on-rule Rule.S4 other = tt
       on-rule _ other = one
 
   -- ---- the rule of the named row

@@ -6,8 +6,7 @@ use Rattle.rota_core.specs.Problem.{Problem}
 use Rattle.rota_core.specs.Roster.{Roster}
 use Rattle.rota_core.specs.HardRules.{KeepsOneCell, KeepsCompetitionRules, KeepsHardRules}
 use Rattle.rota_judge.specs.FirstUnmet.{FirstBroken, first_unmet}
-use Rattle.rota_core.specs.Rules.{soft_rules}
-use Rattle.rota_core.specs.RuleNames.{is_rule}
+use Rattle.rota_core.specs.Rules.{is_rule, soft_rules}
 use Rattle.rota_judge.specs.declared.judge.verdicts.Verdict.{Verdict}
 use Rattle.rota_items.specs.RuleItems.{is_soft}
 use Rattle.rota_items.specs.Variables.{unit_number, roster_of}

@@ -2,7 +2,7 @@
 use Rattle.std.specs.Prelude.{ℕ, List, ◌++◌, codes, decimal}
 use Rattle.rota_pb.specs.Imports.{Answer, Breaks, Fault, File, Memory, NoRoster, Read, Unmet, Write}
 use Rattle.rota_core.specs.FaultTexts.{file_fault_text}
-use Rattle.rota_core.specs.RuleNames.{rule_name}
+use Rattle.rota_core.specs.Rules.{rule_name}
 use Rattle.solver_text.specs.FaultTexts.{answer_fault_text}
 use Rattle.solver_text.specs.Status.{status_words}
 

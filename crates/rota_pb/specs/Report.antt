@@ -3,7 +3,7 @@ use Rattle.std.specs.Prelude.{ℕ, ℤ, List, [], ◌++◌, codes, length, Optio
 use Rattle.rota_pb.specs.Imports.{soft_rules}
 use Rattle.rota_core.specs.Lists.{concat_below}
 use Rattle.rota_core.specs.Numeral.{numeral, signed_numeral}
-use Rattle.rota_core.specs.RuleNames.{rule_name}
+use Rattle.rota_core.specs.Rules.{rule_name}
 use Rattle.rota_core.specs.declared.rule.Rule.TheVariants.{Unit}
 use Rattle.rota_read.specs.SolutionText.{spaced, ended}
 use Rattle.solver_text.specs.Status.{status_words}

@@ -1,6 +1,7 @@
-mod AlikeCosts
+mod AlikeRosters
 pub mod CostLemmas
+mod EachRule
 mod EarlyCharges
 mod InstanceLimits
 pub mod LogicWords
-mod SmallCosts
+mod SmallSums

@@ -1,14 +1,10 @@
 -- Bounds for the costs of a week, which follow from the limits of its tables and from the rules' weights.
-use Rattle.std.specs.Prelude.{ℕ, ◌*◌, ◌^◌, max}
+use Rattle.std.specs.Prelude.{ℕ, ◌*◌, ◌^◌, map, max}
+use Rattle.std.specs.List.{fold}
 use Rattle.rota_core.specs.Limits.{max_nurses, max_shifts, max_skills}
+use Rattle.rota_core.specs.Rules.{soft_rules}
 use Rattle.rota_core.specs.Sizes.{DAYS}
-use Rattle.rota_rules.specs.CompleteWeekends.{complete_weekend_weight}
-use Rattle.rota_rules.specs.ConsecutiveAssignments.{shift_run_weight, work_run_weight}
-use Rattle.rota_rules.specs.ConsecutiveDaysOff.{off_run_weight}
-use Rattle.rota_rules.specs.OptimalCoverage.{optimum_weight}
-use Rattle.rota_rules.specs.ShiftOffRequests.{request_weight}
-use Rattle.rota_rules.specs.TotalAssignments.{assignment_weight}
-use Rattle.rota_rules.specs.WorkedWeekends.{worked_weekend_weight}
+use Rattle.rota_rules.specs.Penalty.{soft_rule}
 
 -- ---- cells
 
@@ -26,9 +22,7 @@ max_cells = max_nurses * max_cells_of_nurse
 
 -- the maximum weight of a unit of a cost
 abbrev pub max_unit_weight : ℕ
-max_unit_weight =
-    max request_weight (max optimum_weight (max shift_run_weight (max work_run_weight (max off_run_weight
-    (max complete_weekend_weight (max assignment_weight worked_weekend_weight))))))
+max_unit_weight = fold max 0 (map (λ rule. (soft_rule rule).weight) soft_rules)
 
 -- a number of 17 digits, above each penalty
 abbrev pub penalty_limit : ℕ

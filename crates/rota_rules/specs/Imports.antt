@@ -10,4 +10,3 @@ pub use Rattle.rota_core.specs.Rules.{soft_rules}
 pub use Rattle.rota_core.specs.declared.values.Cell.{Cell}
 pub use Rattle.rota_core.specs.declared.values.Span.{Span}
 pub use Rattle.rota_core.specs.declared.rule.Rule.{Rule}
-pub use Rattle.rota_core.specs.declared.rule.Rule.TheVariants.{S1, S2, S3, S4, S5, S6, S7}

@@ -1,23 +1,40 @@
--- The cost of a roster in a week, by the soft rules.
-use Rattle.rota_rules.specs.Imports.{ℕ, sum_below, sum_by, Roster, Rule, Problem, soft_rules, S1, S2, S3, S4, S5, S6, S7}
-use Rattle.rota_rules.specs.CompleteWeekends.{complete_weekend_cost_of}
-use Rattle.rota_rules.specs.ConsecutiveAssignments.{consecutive_assignment_cost_of}
-use Rattle.rota_rules.specs.ConsecutiveDaysOff.{consecutive_day_off_cost_of}
-use Rattle.rota_rules.specs.TotalAssignments.{assignment_cost_of}
-use Rattle.rota_rules.specs.WorkedWeekends.{worked_weekend_cost_of}
-use Rattle.rota_rules.specs.OptimalCoverage.{optimum_cost}
-use Rattle.rota_rules.specs.ShiftOffRequests.{request_cost}
+-- The soft rules, with a row for each, and the cost of a roster in a week by these rules.
+use Rattle.std.specs.Prelude.{max}
+use Rattle.rota_rules.specs.Imports.{ℕ, sum_below, sum_by, Roster, Rule, Problem, soft_rules}
+use Rattle.rota_rules.specs.CompleteWeekends.{complete_weekend_cost_of, complete_weekend_weight}
+use Rattle.rota_rules.specs.ConsecutiveAssignments.{consecutive_assignment_cost_of, shift_run_weight, work_run_weight}
+use Rattle.rota_rules.specs.ConsecutiveDaysOff.{consecutive_day_off_cost_of, off_run_weight}
+use Rattle.rota_rules.specs.TotalAssignments.{assignment_cost_of, assignment_weight}
+use Rattle.rota_rules.specs.WorkedWeekends.{worked_weekend_cost_of, worked_weekend_weight}
+use Rattle.rota_rules.specs.OptimalCoverage.{optimum_cost, optimum_weight}
+use Rattle.rota_rules.specs.ShiftOffRequests.{request_cost, request_weight}
 
--- the cost of each soft rule, over all nurses; no other rule costs anything
+-- a soft rule: the cost of a roster over all nurses, and the maximum weight of a unit of this cost
+pub record SoftRule : Type 0 where
+  pub cost : Problem → Roster → ℕ
+  pub weight : ℕ
+
+-- the rule with this cost of each nurse
+abbrev pub of_each_nurse : (Problem → Roster → ℕ → ℕ) → ℕ → SoftRule
+of_each_nurse cost_of weight = record {
+  cost = λ problem roster. sum_below problem.nurses (cost_of problem roster);
+  weight = weight;
+}
+
+-- the soft rules; no other rule costs anything
+abbrev pub soft_rule : Rule → SoftRule
+soft_rule Rule.S1 = record { cost = optimum_cost; weight = optimum_weight }
+soft_rule Rule.S2 = of_each_nurse consecutive_assignment_cost_of (max shift_run_weight work_run_weight)
+soft_rule Rule.S3 = of_each_nurse consecutive_day_off_cost_of off_run_weight
+soft_rule Rule.S4 = record { cost = request_cost; weight = request_weight }
+soft_rule Rule.S5 = of_each_nurse complete_weekend_cost_of complete_weekend_weight
+soft_rule Rule.S6 = of_each_nurse assignment_cost_of assignment_weight
+soft_rule Rule.S7 = of_each_nurse worked_weekend_cost_of worked_weekend_weight
+soft_rule _ = record { cost = λ problem roster. 0; weight = 0 }
+
+-- the cost of a rule
 abbrev pub rule_cost : Problem → Roster → Rule → ℕ
-rule_cost problem roster S1 = optimum_cost problem roster
-rule_cost problem roster S2 = sum_below problem.nurses (consecutive_assignment_cost_of problem roster)
-rule_cost problem roster S3 = sum_below problem.nurses (consecutive_day_off_cost_of problem roster)
-rule_cost problem roster S4 = request_cost problem roster
-rule_cost problem roster S5 = sum_below problem.nurses (complete_weekend_cost_of problem roster)
-rule_cost problem roster S6 = sum_below problem.nurses (assignment_cost_of problem roster)
-rule_cost problem roster S7 = sum_below problem.nurses (worked_weekend_cost_of problem roster)
-rule_cost problem roster _ = 0
+rule_cost problem roster rule = (soft_rule rule).cost problem roster
 
 -- the penalty of the roster in this week: the sum of the costs of the soft rules
 abbrev pub penalty : Problem → Roster → ℕ

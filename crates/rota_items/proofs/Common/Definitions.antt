@@ -1,6 +1,5 @@
 -- Definitions that only proofs cite: the lists that takers took, the items of a day's patterns, and bounds.
 use Rattle.std.specs.Prelude.{◌+◌, ◌*◌, max}
-use Rattle.rota_core.specs.declared.rule.Rule.TheVariants.{S1}
 use Rattle.rota_items.specs.Imports.{ℕ, List, Cell, Problem, Rule, DAYS}
 use Rattle.rota_rules.specs.CostBounds.{max_cells_of_nurse}
 use Rattle.rota_items.specs.Bounds.{max_weight}
@@ -29,7 +28,7 @@ closed_items_at runs d count = pattern_items runs (closed_patterns_at runs.limit
 
 -- the maximum number of slacks of each item of a rule
 abbrev pub max_slacks : Rule → ℕ
-max_slacks S1 = max_number
+max_slacks Rule.S1 = max_number
 max_slacks _ = DAYS
 
 -- the maximum number of cells in an item's sum: of one demand, or of one nurse

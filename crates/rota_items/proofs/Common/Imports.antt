@@ -54,7 +54,7 @@ pub use Rattle.rota_items.specs.Variables.{cell_number, unit_number}
 pub use Rattle.rota_items.specs.WeekModel.{model_of, first_slack, numbered_items, numbered_terms, rows_of, slack_count, item_rows}
 pub use Rattle.rota_items.specs.WeekModel.{numbered_row, objective_terms, slack_weights, slack_variables, constant_terms}
 -- of the rules: each by its name, its cost, its items, and the bounds on them
-pub use Rattle.rota_core.specs.declared.rule.Rule.TheVariants.{H5, H1, H2, H3, H4, S1, S4}
+pub use Rattle.rota_core.specs.declared.rule.Rule.TheVariants.{H5, H1, H2, H3, H4}
 pub use Rattle.rota_rules.specs.CostBounds.{max_cells, max_cells_of_nurse, max_cells_of_day, max_unit_weight, penalty_limit}
 pub use Rattle.rota_items.specs.Bounds.{max_constant, max_weight, max_items, max_constant_of_rule, max_run_items, count_limit}
 pub use Rattle.rota_items.specs.Bounds.{max_constant_of_nurse, max_items_of_nurse}

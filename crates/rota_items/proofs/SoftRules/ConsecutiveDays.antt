@@ -3,7 +3,6 @@ use Rattle.rota_items.proofs.Common.Imports.{◌≡◌, ℕ, ◌*◌, ◌<◌, B
 use Rattle.rota_items.proofs.Common.Imports.{AllByRecursion-concat_below, concat_below, KeepsOneCell, is_off, is_on, works, Roster}
 use Rattle.rota_items.proofs.Common.Imports.{Problem, Rule, Cell, Item, on_cells, work_cells, weighted_shortages, Span, Property, Present}
 use Rattle.rota_items.proofs.Common.Imports.{Absent, Runs, run_items, max_shifts, run_cost, shift_runs, work_runs}
-use Rattle.rota_core.specs.declared.rule.Rule.TheVariants.{S2, S3}
 use Rattle.rota_rules.specs.ConsecutiveAssignments.{consecutive_assignment_cost_of, history_on, shift_run_weight, work_run_weight}
 use Rattle.rota_rules.specs.ConsecutiveDaysOff.{consecutive_day_off_cost_of, off_run_weight}
 use Rattle.rota_items.specs.rules.ConsecutiveAssignments.{assignment_runs_of}
@@ -51,17 +50,17 @@ module _ (problem : Problem) where
   abbrev shift_run_cost : Roster → ℕ → ℕ → ℕ
   shift_run_cost roster n s = run_cost (is_on problem roster n s) (history_on problem n s) (problem.limits s)
 
-  pub sound-consecutive_assignments : IsNurseRuleSound problem S2 (consecutive_assignment_cost_of problem) assignment_runs_of (λ _ _. 0)
+  pub sound-consecutive_assignments : IsNurseRuleSound problem Rule.S2 (consecutive_assignment_cost_of problem) assignment_runs_of (λ _ _. 0)
   sound-consecutive_assignments = record {
     items = λ n n_in.
-        AllByRecursion-append (IsItemSound problem S2) (concat_below problem.shifts (shift_items n)) (run_items (work_runs problem n))
-        (AllByRecursion-concat_below (IsItemSound problem S2) problem.shifts (shift_items n) (λ s s_in.
+        AllByRecursion-append (IsItemSound problem Rule.S2) (concat_below problem.shifts (shift_items n)) (run_items (work_runs problem n))
+        (AllByRecursion-concat_below (IsItemSound problem Rule.S2) problem.shifts (shift_items n) (λ s s_in.
         sound-run_items problem n (shift_runs problem n s) (of_nurse-on problem n n_in s s_in) (omega arith)))
         (sound-run_items problem n (work_runs problem n) (of_nurse-work problem n n_in) (omega arith));
     charges = λ roster one n n_in.
         let shifts = sum_by-each-times (weighted roster) problem.shifts shift_run_weight (shift_items n) (shift_run_cost roster n)
-        (λ s. weighted-on_runs problem roster one n n_in S2 shift_run_weight (history_on problem n s) (problem.limits s) s) in
-        let work = weighted-work_runs problem roster one n n_in S2 work_run_weight (problem.past n).work_run (problem.contract n).work in
+        (λ s. weighted-on_runs problem roster one n n_in Rule.S2 shift_run_weight (history_on problem n s) (problem.limits s) s) in
+        let work = weighted-work_runs problem roster one n n_in Rule.S2 work_run_weight (problem.past n).work_run (problem.contract n).work in
         let parts = sum_by-append (weighted roster) (concat_below problem.shifts (shift_items n)) (run_items (work_runs problem n)) in
         omega arith;
     small = λ limits n.
@@ -72,11 +71,11 @@ module _ (problem : Problem) where
     constant_small = λ limits n. omega arith;
   }
 
-  pub sound-consecutive_days_off : IsNurseRuleSound problem S3 (consecutive_day_off_cost_of problem) days_off_runs_of (λ _ _. 0)
+  pub sound-consecutive_days_off : IsNurseRuleSound problem Rule.S3 (consecutive_day_off_cost_of problem) days_off_runs_of (λ _ _. 0)
   sound-consecutive_days_off = record {
     items = λ n n_in. sound-run_items problem n (off_runs problem n) (of_nurse-work problem n n_in) (omega arith);
     charges = λ roster one n n_in.
-        omega (arith, weighted-off_runs problem roster one n n_in S3 off_run_weight (problem.past n).off_run (problem.contract n).off);
+        omega (arith, weighted-off_runs problem roster one n n_in Rule.S3 off_run_weight (problem.past n).off_run (problem.contract n).off);
     small = λ limits n. small-runs (off_runs problem n) (λ d. omega (arith, length-work problem limits n d)) (omega arith) (limits.off_limits n);
     constant_small = λ limits n. omega arith;
   }

@@ -4,7 +4,6 @@ use Rattle.rota_items.proofs.Common.Imports.{flat_map, sum_by, ints, sum_by-appe
 use Rattle.rota_items.proofs.Common.Imports.{and_parts, append-nil, KeepsCompetitionRules, Roster, InWeek, Problem, Rule, Cell, Item, Term}
 use Rattle.rota_items.proofs.Common.Imports.{shortage, weighted_shortages, value_of, soft_rules, cell_terms, cell_terms_of_rule, constant}
 use Rattle.rota_items.proofs.Common.Imports.{constant_of_rule, items_of_rule, penalty, rule_cost, soft_items, request_terms, is_soft}
-use Rattle.rota_core.specs.declared.rule.Rule.TheVariants.{S1, S2, S3, S4, S5, S6, S7}
 use Rattle.rota_items.proofs.LogicWords.{all-weaker}
 use Rattle.rota_rules.proofs.LogicWords.{sum_below-zero}
 use Rattle.rota_items.proofs.ItemLists.{none-concat_below}
@@ -42,13 +41,13 @@ module _ (problem : Problem) where
   }
 
   pub sound-rule : (rule : Rule) → IsRuleSound problem rule (λ roster. rule_cost problem roster rule) (charge_or_none rule)
-  sound-rule S1 = sound-optimal_coverage problem
-  sound-rule S2 = by_nurse (sound-consecutive_assignments problem) (λ _ one. one) refl
-  sound-rule S3 = by_nurse (sound-consecutive_days_off problem) (λ _ one. one) refl
-  sound-rule S4 = sound-shift_off_requests problem
-  sound-rule S5 = by_nurse (sound-complete_weekends problem) (λ _ one. one) refl
-  sound-rule S6 = by_nurse (sound-total_assignments problem) (λ _ one. one) refl
-  sound-rule S7 = by_nurse (sound-worked_weekends problem) (λ _ one. one) refl
+  sound-rule Rule.S1 = sound-optimal_coverage problem
+  sound-rule Rule.S2 = by_nurse (sound-consecutive_assignments problem) (λ _ one. one) refl
+  sound-rule Rule.S3 = by_nurse (sound-consecutive_days_off problem) (λ _ one. one) refl
+  sound-rule Rule.S4 = sound-shift_off_requests problem
+  sound-rule Rule.S5 = by_nurse (sound-complete_weekends problem) (λ _ one. one) refl
+  sound-rule Rule.S6 = by_nurse (sound-total_assignments problem) (λ _ one. one) refl
+  sound-rule Rule.S7 = by_nurse (sound-worked_weekends problem) (λ _ one. one) refl
   sound-rule rule = no_soft_rule rule refl
 
   -- ---- all items
@@ -92,8 +91,8 @@ module _ (problem : Problem) where
 
   -- on a roster that keeps the competition's rules, each rule's charge is its cost
   pub charged_on : (roster : Roster) → KeepsCompetitionRules problem roster → (rule : Rule) → IsChargedOn problem roster rule
-  charged_on roster keeps S1 = keeps.minimum
-  charged_on roster keeps S4 = tt
+  charged_on roster keeps Rule.S1 = keeps.minimum
+  charged_on roster keeps Rule.S4 = tt
   charged_on roster keeps _ = keeps.one_cell
 
   -- the items of these rules, their constants and their terms on cells charge the cost of the rules

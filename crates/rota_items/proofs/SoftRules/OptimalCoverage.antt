@@ -1,7 +1,7 @@
 -- The items of the optimal numbers charge the missing nurses.
-use Rattle.rota_items.proofs.Common.Imports.{◌≡◌, ℕ, ◌-◌, false, refl, arith, ints, AllByRecursion-concat_below, AllByRecursion-singleton_if}
+use Rattle.rota_items.proofs.Common.Imports.{Rule, ◌≡◌, ℕ, ◌-◌, false, refl, arith, ints, AllByRecursion-concat_below, AllByRecursion-singleton_if}
 use Rattle.rota_items.proofs.Common.Imports.{nurses_at, KeepsMinimum, Roster, cell, Problem, demand_cells, shortage, weighted_shortages, rules}
-use Rattle.rota_items.proofs.Common.Imports.{max_shifts, max_skills, S1, optimum_cost, optimum_weight, optimum_item, optimum_items, optimum_items_at}
+use Rattle.rota_items.proofs.Common.Imports.{max_shifts, max_skills, optimum_cost, optimum_weight, optimum_item, optimum_items, optimum_items_at}
 use Rattle.rota_items.proofs.ItemLists.{none_of_nurses}
 use Rattle.rota_items.specs.RuleItems.{no_charge}
 use Rattle.rota_items.proofs.LogicWords.{few-concat_below, few-singleton_if, sum_by-singleton_if, sum_by-each-times, count_by-each}
@@ -30,14 +30,14 @@ module _ (problem : Problem) where
 
   -- ---- the items
 
-  pub sound-optimal_coverage : IsRuleSound problem S1 (optimum_cost problem) (record no_charge { day_items = optimum_items })
+  pub sound-optimal_coverage : IsRuleSound problem Rule.S1 (optimum_cost problem) (record no_charge { day_items = optimum_items })
   sound-optimal_coverage = record {
     items =
         rw (none_of_nurses problem (optimum_items problem))
-        (AllByRecursion-concat_below (IsItemSound problem S1) 7 _ (λ d d_in.
-        AllByRecursion-concat_below (IsItemSound problem S1) problem.shifts _ (λ s s_in.
-        AllByRecursion-concat_below (IsItemSound problem S1) problem.skills (optimum_items_at problem d s) (λ k k_in.
-        AllByRecursion-singleton_if (IsItemSound problem S1) _ (optimum_item problem d s k) (λ wanted. record {
+        (AllByRecursion-concat_below (IsItemSound problem Rule.S1) 7 _ (λ d d_in.
+        AllByRecursion-concat_below (IsItemSound problem Rule.S1) problem.shifts _ (λ s s_in.
+        AllByRecursion-concat_below (IsItemSound problem Rule.S1) problem.skills (optimum_items_at problem d s) (λ k k_in.
+        AllByRecursion-singleton_if (IsItemSound problem Rule.S1) _ (optimum_item problem d s k) (λ wanted. record {
           rule_is = refl;
           terms = sound-demand problem d s k d_in s_in k_in;
           weighs = omega arith;

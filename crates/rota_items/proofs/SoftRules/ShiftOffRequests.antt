@@ -2,7 +2,7 @@
 use Rattle.rota_items.proofs.Common.Imports.{◌≡◌, ℕ, ◌+◌, ◌<◌, Bool, true, false, cond, List, refl, ap, ◌∙◌, arith, pos, ◌+ℤ◌, ◌<ℤ◌}
 use Rattle.rota_items.proofs.Common.Imports.{◌≤ℤ◌, nat_lt, AllByRecursion, ltb-true, ints, AllByRecursion-concat_below}
 use Rattle.rota_items.proofs.Common.Imports.{AllByRecursion-singleton_if, singleton_if, Roster, InWeek, Problem, Cell, Term, value_of}
-use Rattle.rota_items.proofs.Common.Imports.{IsWithinLimits, S4, max_weight, request_cost, request_weight, request_terms, request_terms_on, []}
+use Rattle.rota_items.proofs.Common.Imports.{IsWithinLimits, Rule, max_weight, request_cost, request_weight, request_terms, request_terms_on, []}
 use Rattle.rota_items.proofs.Common.Imports.{◌∷◌, negsuc, nat_tests, sum_by, sum_by-cons, positive_part}
 use Rattle.rota_core.proofs.LogicWords.{rises-blocks, rises-singleton_if}
 use Rattle.rota_items.proofs.ItemLists.{none-concat_below}
@@ -77,7 +77,7 @@ module _ (problem : Problem) where
       sum_by-each-times (worth roster) problem.skills request_weight _ _ (λ k _.
       rw sum_by-singleton_if (grind (arith, nat_tests)))))))
 
-  pub sound-shift_off_requests : IsRuleSound problem S4 (request_cost problem) (record no_charge { cell_terms = request_terms })
+  pub sound-shift_off_requests : IsRuleSound problem Rule.S4 (request_cost problem) (record no_charge { cell_terms = request_terms })
   sound-shift_off_requests = record {
     items = rw (← none-concat_below problem.nurses) tt;
     charges = λ roster keeps.

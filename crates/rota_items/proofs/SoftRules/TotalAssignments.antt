@@ -1,9 +1,8 @@
 -- The items of the totals and their constant charge the assignments outside the limits.
 use Rattle.rota_items.proofs.Common.Imports.{◌≡◌, ℕ, ◌+◌, ◌-◌, ◌*◌, ◌<◌, ◌≤◌, Bool, ◌&&◌, true, false, cond, refl, arith, ints, min, ℤ, pos}
 use Rattle.rota_items.proofs.Common.Imports.{negsuc, nat_lt, count_by, sum_by-append, AllByRecursion-append, AllByRecursion-singleton_if, inl}
-use Rattle.rota_items.proofs.Common.Imports.{inr, KeepsOneCell, Roster, Problem, nurse_cells, work_cells, shortage, times, IsUnit, rules}
+use Rattle.rota_items.proofs.Common.Imports.{inr, KeepsOneCell, Roster, Rule, Problem, nurse_cells, work_cells, shortage, times, IsUnit, rules}
 use Rattle.rota_items.proofs.Common.Imports.{charged_excess, excess_before_counts, max_totals_count, AllByRecursion-concat_below, InWeek}
-use Rattle.rota_core.specs.declared.rule.Rule.TheVariants.{S6}
 use Rattle.rota_rules.specs.TotalAssignments.{assignment_cost_of, assignment_weight, assignments_of}
 use Rattle.rota_items.specs.rules.TotalAssignments.{assignment_constant_of, max_total_item, max_totals_of, min_total_item}
 use Rattle.rota_items.specs.rules.TotalAssignments.{min_totals_of, still_allowed, still_wanted, totals_of}
@@ -61,7 +60,7 @@ module _ (problem : Problem) where
         (rises-nurse_cells problem n)
 
     sound-minimum : (problem.is_last && nat_lt 0 (still_wanted problem n)) ≡ true →
-        IsItemSound problem S6 (min_total_item problem n)
+        IsItemSound problem Rule.S6 (min_total_item problem n)
     sound-minimum wanted = record {
       rule_is = refl;
       terms = sound-sum (pos 1) (inl refl);
@@ -71,7 +70,7 @@ module _ (problem : Problem) where
     }
 
     sound-maximum : (max_totals_count problem && nat_lt (still_allowed problem n) 7) ≡ true →
-        IsItemSound problem S6 (max_total_item problem n)
+        IsItemSound problem Rule.S6 (max_total_item problem n)
     sound-maximum limited = record {
       rule_is = refl;
       terms = sound-sum (negsuc 0) (inr refl);
@@ -80,12 +79,12 @@ module _ (problem : Problem) where
       enough = λ roster keeps. omega (arith, shortage-maximum roster n, assignments-le roster n keeps.one_cell n_in);
     }
 
-  pub sound-total_assignments : IsNurseRuleSound problem S6 (assignment_cost_of problem) totals_of assignment_constant_of
+  pub sound-total_assignments : IsNurseRuleSound problem Rule.S6 (assignment_cost_of problem) totals_of assignment_constant_of
   sound-total_assignments = record {
     items = λ n n_in.
-        AllByRecursion-append (IsItemSound problem S6) (min_totals_of problem n) (max_totals_of problem n)
-        (AllByRecursion-singleton_if (IsItemSound problem S6) _ (min_total_item problem n) (sound-minimum n n_in))
-        (AllByRecursion-singleton_if (IsItemSound problem S6) _ (max_total_item problem n) (sound-maximum n n_in));
+        AllByRecursion-append (IsItemSound problem Rule.S6) (min_totals_of problem n) (max_totals_of problem n)
+        (AllByRecursion-singleton_if (IsItemSound problem Rule.S6) _ (min_total_item problem n) (sound-minimum n n_in))
+        (AllByRecursion-singleton_if (IsItemSound problem Rule.S6) _ (max_total_item problem n) (sound-maximum n n_in));
     charges = λ roster one n n_in.
         let few = assignments-le roster n one n_in in
         let below = min_charged problem.is_last (problem.contract n).total.min (problem.past n).assignments _ _ few

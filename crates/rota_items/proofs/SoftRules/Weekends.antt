@@ -3,7 +3,6 @@ use Rattle.rota_items.proofs.Common.Imports.{◌≡◌, ℕ, ◌+◌, ◌*◌, �
 use Rattle.rota_items.proofs.Common.Imports.{if◌then◌else◌, ◌&&◌, nat_le, AllByRecursion, KeepsOneCell, works, Roster, Problem, Rule, Cell}
 use Rattle.rota_items.proofs.Common.Imports.{work_cells, Item, weighted_shortages, Present, pattern_item, Pattern, saturday, max_unit_weight}
 use Rattle.rota_items.proofs.Common.Imports.{IsWithinLimits, max_run_items, only_sunday, weekend_items, DaysFollow, max_totals_count}
-use Rattle.rota_core.specs.declared.rule.Rule.TheVariants.{S5, S7}
 use Rattle.rota_rules.specs.CompleteWeekends.{complete_weekend_cost_of, complete_weekend_weight}
 use Rattle.rota_rules.specs.WorkedWeekends.{worked_weekend_cost_of, worked_weekend_weight}
 use Rattle.rota_items.specs.rules.CompleteWeekends.{complete_weekends_of}
@@ -58,23 +57,23 @@ module _ (problem : Problem) (limits : IsWithinLimits problem) where
       record { each = (small (saturday alone) (omega arith) (grind arith), (small only_sunday (omega arith) (omega arith), tt)); few = omega arith }
 
 module _ (problem : Problem) where
-  pub sound-complete_weekends : IsNurseRuleSound problem S5 (complete_weekend_cost_of problem) complete_weekends_of (λ _ _. 0)
+  pub sound-complete_weekends : IsNurseRuleSound problem Rule.S5 (complete_weekend_cost_of problem) complete_weekends_of (λ _ _. 0)
   sound-complete_weekends = record {
-    items = λ n n_in. sound-items_where problem S5 complete_weekend_weight n true n_in (omega arith) (problem.contract n).complete;
+    items = λ n n_in. sound-items_where problem Rule.S5 complete_weekend_weight n true n_in (omega arith) (problem.contract n).complete;
     charges = λ roster one n n_in.
-        grind (arith, weighted-items_where problem S5 complete_weekend_weight n true n_in roster one (problem.contract n).complete);
-    small = λ limits n. small-weekend problem limits S5 complete_weekend_weight n true _ (omega arith);
+        grind (arith, weighted-items_where problem Rule.S5 complete_weekend_weight n true n_in roster one (problem.contract n).complete);
+    small = λ limits n. small-weekend problem limits Rule.S5 complete_weekend_weight n true _ (omega arith);
     constant_small = λ limits n. omega arith;
   }
 
   abbrev is_charged : ℕ → Bool
   is_charged n = max_totals_count problem && nat_le (problem.contract n).weekends (problem.past n).weekends
 
-  pub sound-worked_weekends : IsNurseRuleSound problem S7 (worked_weekend_cost_of problem) worked_weekends_of weekend_constant_of
+  pub sound-worked_weekends : IsNurseRuleSound problem Rule.S7 (worked_weekend_cost_of problem) worked_weekends_of weekend_constant_of
   sound-worked_weekends = record {
-    items = λ n n_in. sound-items_where problem S7 worked_weekend_weight n false n_in (omega arith) (is_charged n);
+    items = λ n n_in. sound-items_where problem Rule.S7 worked_weekend_weight n false n_in (omega arith) (is_charged n);
     charges = λ roster one n n_in.
-        grind (arith, weighted-items_where problem S7 worked_weekend_weight n false n_in roster one (is_charged n));
-    small = λ limits n. small-weekend problem limits S7 worked_weekend_weight n false _ (omega arith);
+        grind (arith, weighted-items_where problem Rule.S7 worked_weekend_weight n false n_in roster one (is_charged n));
+    small = λ limits n. small-weekend problem limits Rule.S7 worked_weekend_weight n false _ (omega arith);
     constant_small = λ limits n. grind (arith, limits.weekends n);
   }

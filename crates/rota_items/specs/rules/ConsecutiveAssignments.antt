@@ -1,12 +1,12 @@
 -- How the model charges S2: the items of a nurse's runs.
 use Rattle.std.specs.Prelude.{◌++◌}
-use Rattle.rota_items.specs.RunItems.{S2, ℕ, List, Cell, Problem, concat_below, on_cells, work_cells, Item, Runs, Present, run_items}
+use Rattle.rota_items.specs.RunItems.{ℕ, List, Cell, Problem, Rule, concat_below, on_cells, work_cells, Item, Runs, Present, run_items}
 use Rattle.rota_rules.specs.ConsecutiveAssignments.{shift_run_weight, work_run_weight, history_on}
 
 -- a nurse's runs of days on a shift type
 abbrev pub shift_runs : Problem → ℕ → ℕ → Runs Cell
 shift_runs problem n s = record {
-  rule = S2;
+  rule = Rule.S2;
   weight = shift_run_weight;
   property = Present (on_cells problem n s);
   history = history_on problem n s;
@@ -16,7 +16,7 @@ shift_runs problem n s = record {
 -- a nurse's runs of working days
 abbrev pub work_runs : Problem → ℕ → Runs Cell
 work_runs problem n = record {
-  rule = S2;
+  rule = Rule.S2;
   weight = work_run_weight;
   property = Present (work_cells problem n);
   history = (problem.past n).work_run;

@@ -1,12 +1,12 @@
 -- How the model charges S1: an item for each day, shift type and skill.
 use Rattle.std.specs.Prelude.{◌-◌}
-use Rattle.rota_items.specs.Rows.{DAYS, S1, ℕ, pos, nat_lt, List, Cell, Problem, concat_below, singleton_if, demand_cells, Item, times}
+use Rattle.rota_items.specs.Rows.{DAYS, ℕ, pos, nat_lt, List, Cell, Problem, Rule, concat_below, singleton_if, demand_cells, Item, times}
 use Rattle.rota_rules.specs.OptimalCoverage.{optimum_weight}
 
 -- the item of a demand: its shortage is the number of nurses that are missing up to the optimal number
 abbrev pub optimum_item : Problem → (day shift skill : ℕ) → Item Cell
 optimum_item problem d s k = let demand = problem.demand d s k in record {
-  rule = S1;
+  rule = Rule.S1;
   weight = optimum_weight;
   slacks = demand.optimal - demand.minimum;
   terms = times (pos 1) (demand_cells problem d s k);

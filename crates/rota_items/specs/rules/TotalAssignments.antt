@@ -1,6 +1,6 @@
 -- How the model charges S6: the items of a nurse's total, and her part of the constant.
 use Rattle.std.specs.Prelude.{◌+◌, ◌-◌, ◌*◌, ◌-ℤ◌, ◌&&◌, if◌then◌else◌, ◌++◌}
-use Rattle.rota_items.specs.Rows.{DAYS, S6, ℕ, pos, negsuc, nat_lt, min, List, Cell, Problem, singleton_if, nurse_cells, Item, times}
+use Rattle.rota_items.specs.Rows.{DAYS, ℕ, pos, negsuc, nat_lt, min, List, Cell, Problem, Rule, singleton_if, nurse_cells, Item, times}
 use Rattle.rota_items.specs.CountedItems.{excess_before_counts, max_totals_count}
 use Rattle.rota_rules.specs.TotalAssignments.{assignment_weight}
 
@@ -15,7 +15,7 @@ still_allowed problem n = (problem.contract n).total.max - (problem.past n).assi
 -- the item whose shortage is the number of assignments that are missing for the nurse's minimum total, at most one a day
 abbrev pub min_total_item : Problem → ℕ → Item Cell
 min_total_item problem n = record {
-  rule = S6;
+  rule = Rule.S6;
   weight = assignment_weight;
   slacks = min (still_wanted problem n) DAYS;
   terms = times (pos 1) (nurse_cells problem n);
@@ -25,7 +25,7 @@ min_total_item problem n = record {
 -- the item whose shortage is the number of this week's assignments above those that the nurse may still have
 abbrev pub max_total_item : Problem → ℕ → Item Cell
 max_total_item problem n = record {
-  rule = S6;
+  rule = Rule.S6;
   weight = assignment_weight;
   slacks = DAYS - still_allowed problem n;
   terms = times (negsuc 0) (nurse_cells problem n);

@@ -56,7 +56,7 @@ pub use Rattle.rota_items.specs.WeekModel.{numbered_row, objective_terms, slack_
 pub use Rattle.rota_items.specs.WeekModel.{cell_of_number, constant_terms, hard_constraints, unit_row}
 pub use Rattle.rota_judge.specs.Extensions.{extension_of, assignment_of, extension, is_slack_needed}
 -- of the rules: each by its name, its cost, its items, and the bounds on them
-pub use Rattle.rota_core.specs.declared.rule.Rule.TheVariants.{H5, H1, H2, H3, H4, S1, S4}
+pub use Rattle.rota_core.specs.declared.rule.Rule.TheVariants.{H5, H1, H2, H3, H4}
 pub use Rattle.rota_items.specs.Bounds.{max_weight, max_objective, max_coefficient}
 pub use Rattle.rota_items.specs.MachineBounds.{signed_limit, max_count}
 pub use Rattle.rota_rules.specs.ShiftOffRequests.{request_cost}

@@ -17,7 +17,7 @@ pub fn instances_are_within_limits()
 {}
 
 /// Within the limits a penalty has at most 17 digits.
-#[tactic(auto, using(crate::proofs::SmallCosts::small_costs))]
+#[tactic(auto, using(crate::proofs::EachRule::small_costs))]
 pub fn penalty_is_small()
     ensures { (problem : Problem) (roster : Roster) →
         IsWithinLimits problem →
