@@ -88,7 +88,7 @@ const WEEKS: &[Row] = rows! {
 // Windows and patterns of one shift type, of work and of days off.
 const NUMBERS: Changes = of!([
     Sce Line(6, b"Day (9999,9999)"),
-    Sce Line(10, b"Full (9999,9999) (9999,9999) (9999,9999) 9999 1"),
+    Sce Line(10, b"Full (9999,9999) (9999,9999) (9999,9999) 9999 0"),
     His Line(4, b"Ann 9999 9999 Day 9999 9999 9999")
 ]);
 
@@ -113,7 +113,7 @@ fn numbers_at_their_limits(rt: HostRuntime) -> Result<(), Fail> {
         &rt,
         rt.alloc(),
         &texts,
-        b"* #variable= 76 #constraint= 76\n",
+        b"* #variable= 74 #constraint= 74\n",
     )?;
     Ok(())
 }
