@@ -133,7 +133,7 @@ def tried(
         leave(sorted({edit.crate for edit in outcomes}), entries)
 
     shutil.rmtree(ROOMS, ignore_errors=True)
-    trials = Trials(crates, by_crate, each_alone, are_proved, keep)
+    trials = Trials(crates, by_crate, each_alone, are_proved, made.compared, keep)
     try:
         outcomes = trials.run()
     finally:

@@ -49,9 +49,14 @@ def library(name: str) -> Path:
 
 
 def check_words(
-    crate: build.Crate, crates: Dict[str, build.Crate], jobs: int, kept: Path
+    crate: build.Crate,
+    crates: Dict[str, build.Crate],
+    functions: Iterable[str],
+    jobs: int,
+    kept: Path,
 ) -> List[str]:
-    """The command that checks the crate in a folder with its sources, over what was kept."""
+    """The command that checks these functions of the crate, or all if none is named, in a folder
+    with its sources, over what was kept."""
     folder = kit()
     used = crate.line.partition("#")[0].partition(":")[2].split()
     words = [
@@ -74,6 +79,8 @@ def check_words(
         "--logic-built",
         f"{folder}/logic_built",
     ]
+    for name in functions:
+        words += ["--only", name.partition("::")[2]]
     return [*words, "--jobs", str(jobs), "--incremental", str(kept)]
 
 
@@ -117,14 +124,16 @@ def check(
     crate: build.Crate,
     crates: Dict[str, build.Crate],
     edits: Iterable[Edit],
+    functions: Iterable[str],
     jobs: int,
     running: Set[int],
 ) -> Check:
-    """Checks the crate with these edits, by this number of jobs. Its process, which leads a group,
-    is among those that are running as long as it is. Raises Unfit if the edits do not fit."""
+    """Checks these functions of the crate, or all if none is named, with these edits, by this
+    number of jobs. Its process, which leads a group, is among those that are running as long as it
+    is. Raises Unfit if the edits do not fit."""
     folder = copy_with(edits, crate)
     log = ROOMS / crate.name / "log"
-    words = check_words(crate, crates, jobs, kept_work(crate))
+    words = check_words(crate, crates, functions, jobs, kept_work(crate))
     with log.open("wb") as out:
         process = subprocess.Popen(
             words,

@@ -3,7 +3,8 @@ alone what a round does not settle.
 
 The first round of a crate is a check from nothing, unless a check in its folder has kept its work.
 All functions but the edited ones are proved in it, and the next round only proves what the rounds
-before it did not. So no crate is proved once more for its edits alone.
+before it did not. So no crate is proved once more for its edits alone. If a crate is proved as it
+is, and the record says that the functions that an edit changes refused it, only these are checked.
 """
 
 import os
@@ -19,6 +20,7 @@ sys.path.insert(0, str(Path(__file__).resolve().parents[2]))
 import build  # noqa: E402
 from edit import Edit, Unfit  # noqa: E402
 from prover import Check, check, stop  # noqa: E402
+from record import Entry  # noqa: E402
 from rounds import Place, Round, functions_of, rounds_of  # noqa: E402
 from verdict import NO_LONGER_FITS, Function, Goal, Verdict, is_readable  # noqa: E402
 
@@ -58,6 +60,18 @@ def place_of(function: Function, places: List[Place]) -> Optional[Place]:
             one for one in named if owner.startswith(one.owner)
         }
     return found.pop() if len(found) == 1 else None
+
+
+def functions_of_record(
+    round: Round, recorded: Dict[Edit, Entry], places: List[Place]
+) -> FrozenSet[str]:
+    """The functions that refused the edits of the round by the record, if these are the ones that
+    the edits change; else none."""
+    if not all(edit in recorded for edit in round.edits):
+        return frozenset()
+    names = {goal.function for edit in round.edits for goal in recorded[edit].goals}
+    found = {place_of(Function(name, frozenset(), frozenset()), places) for name in names}
+    return frozenset(names if found == round.changed else ())
 
 
 def refused(round: Round, said: Verdict, places: List[Place]) -> Dict[Edit, FrozenSet[Goal]]:
@@ -126,10 +140,16 @@ class Chain:
     to be proved as it is: then an open goal is the edit's."""
 
     def __init__(
-        self, crate: build.Crate, edits: List[Edit], each_alone: bool, is_proved: bool
+        self,
+        crate: build.Crate,
+        edits: List[Edit],
+        each_alone: bool,
+        is_proved: bool,
+        recorded: Dict[Edit, Entry],
     ) -> None:
         self.crate = crate
         self.is_proved = is_proved
+        self.recorded = recorded
         self.places = places_in(crate.home)
         whole = rounds_of(edits, crate.home)
         rounds = [
@@ -150,6 +170,12 @@ class Chain:
         if self.rounds:
             return self.rounds.pop(0)
         return self.alone.pop(0) if self.is_proved else AS_IT_IS
+
+    def functions(self, round: Round) -> FrozenSet[str]:
+        """The functions that a check with these edits is about, or none if it is about all."""
+        if not self.is_proved or round == AS_IT_IS:
+            return frozenset()
+        return functions_of_record(round, self.recorded, self.places)
 
     def weight(self) -> int:
         """The crate whose rounds take longest comes first: those with the most code, most often."""
@@ -179,8 +205,8 @@ class Chain:
 
 
 class Trials:
-    """The trials of the edits of some crates, which may be proved as they are already. Each outcome
-    is kept as soon as it is known."""
+    """The trials of the edits of some crates, which may be proved as they are already; some are
+    compared with their entries in the record. Each outcome is kept as soon as it is known."""
 
     def __init__(
         self,
@@ -188,13 +214,15 @@ class Trials:
         edits: Dict[str, List[Edit]],
         each_alone: bool,
         are_proved: bool,
+        compared: Dict[Edit, Entry],
         keep: Callable[[Dict[Edit, Outcome]], None],
     ) -> None:
         self.crates = crates
         self.keep = keep
         self.outcomes: Dict[Edit, Outcome] = {}
         self.waiting = [
-            Chain(crates[name], some, each_alone, are_proved) for name, some in edits.items()
+            Chain(crates[name], some, each_alone, are_proved, compared)
+            for name, some in edits.items()
         ]
         self.processor = 0.0
         self.checks = 0
@@ -221,9 +249,8 @@ class Trials:
                 jobs = max(1, count // (len(self.waiting) + len(running)))
                 chain = self.waiting.pop()
                 round = chain.take()
-                running[
-                    pool.submit(check, chain.crate, self.crates, round.edits, jobs, self.running)
-                ] = (chain, round)
+                words = (chain.crate, self.crates, round.edits, chain.functions(round), jobs)
+                running[pool.submit(check, *words, self.running)] = (chain, round)
             for done in wait(running, return_when=FIRST_COMPLETED).done:
                 chain, round = running.pop(done)
                 self.settle(chain, round, done)

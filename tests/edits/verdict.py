@@ -34,6 +34,8 @@ CYCLE = re.compile(r"proofs/(.*?)/?\+\w+/")
 UNREADABLE = re.compile(
     r"is not in scope|has no field|is no name|operand is missing|expected the end|cannot continue"
 )
+# The last line of a check of some functions alone.
+ONLY = re.compile(r"only=(\d+) proved=(\d+)$")
 COMPILER_ERROR = re.compile(r"^error(\[|:)|\berror\[[\w-]+\]", re.M)
 
 
@@ -56,9 +58,9 @@ class Function(NamedTuple):
 
 
 class Verdict(NamedTuple):
-    """What a check said: whether the crate is proved, None if it did not come to that; the
-    functions with open goals of their own; and the errors that belong to no function, or are no
-    goal's."""
+    """What a check said: whether the crate, or the functions that it was about, are proved, None if
+    it did not come to that; the functions with open goals of their own; and the errors that belong
+    to no function, or are no goal's."""
 
     proved: Optional[bool]
     functions: Tuple[Function, ...]
@@ -112,6 +114,7 @@ class Reader:
         note = NOTE.match(line)
         function = FUNCTION_LINE.match(line)
         error = ERROR.match(line)
+        only = ONLY.match(line)
         if note:
             self.notes.append((note[1], int(note[2]), note[3]))
         elif function:
@@ -120,6 +123,8 @@ class Reader:
             self.errors.append((error[1], error[2]))
         elif line.startswith("logic="):
             self.proved = line.startswith("logic=proved")
+        elif only:
+            self.proved = only[1] == only[2]
 
     def read_function(self, path: str, told: str) -> None:
         """Reads a function's line; the notes before it are the function's."""

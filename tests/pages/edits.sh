@@ -9,11 +9,11 @@
 . "$(dirname "$0")/../kit/stand_ins.sh"
 
 # A prover for the test. A function is proved unless a line of it is `wrong`, or it calls one that is not proved; `nonsense` does not compile;
-# a definition that is `wrong` leaves a lemma without a proof. Each check is a line of `checks`: the crate, the lines that are wrong, and how
-# many checks had kept their work before. It needs the libraries of the crates below.
+# a definition that is `wrong` leaves a lemma without a proof. Each check is a line of `checks`: the crate, the lines that are wrong, the
+# functions that it was about alone, and how many checks had kept their work before. It needs the libraries of the crates below.
 stand_in rattle << 'END_OF_RATTLE'
 #!/usr/bin/env python3
-import os, re, sys, time
+import contextlib, os, re, sys, time
 from pathlib import Path
 
 words = sys.argv[1:]
@@ -25,13 +25,13 @@ for library in after("--extern"):
 if Path(os.environ["CALLS"], "waits").exists():
     print(os.getpid(), file=Path(os.environ["CALLS"], "sleepers").open("a"), flush=True)
     time.sleep(60)
-turns = Path(os.environ["CALLS"], "killed")
-if turns.exists() and turns.read_text():
-    turns.write_text(turns.read_text()[1:])
-    os.kill(os.getpid(), 9)
+for turn in Path(os.environ["CALLS"], "killed").glob("*"):
+    with contextlib.suppress(FileNotFoundError):
+        turn.unlink()
+        os.kill(os.getpid(), 9)
 text, definition = Path("src/lib.rt").read_text(), Path("specs/Words.antt").read_text()
 with Path(os.environ["CALLS"], "checks").open("a") as file:
-    print(name, *re.findall(r"wrong (\w+)|same (\w+)", text + definition), len(list(kept.iterdir())), file=file)
+    print(name, *re.findall(r"wrong (\w+)|same (\w+)", text + definition), *after("--only"), len(list(kept.iterdir())), file=file)
 Path(kept, f"{len(list(kept.iterdir()))}.oantt").touch()
 if "nonsense" in text:
     sys.exit("error[syntax]: src/lib.rt")
@@ -40,6 +40,8 @@ if "wrong" in definition:
 lost = set()
 for found in re.finditer(r"fn (\w+)(.*?)^}", text, re.M | re.S):
     function, body = found[1], found[2]
+    if after("--only") and f"lib::{function}" not in after("--only"):
+        continue
     line = text.count("\n", 0, found.start()) + 1
     own, waits = "wrong" in body, lost.intersection(re.findall(r"call (\w+)", body))
     lost |= {function} if own or waits else set()
@@ -48,6 +50,8 @@ for found in re.finditer(r"fn (\w+)(.*?)^}", text, re.M | re.S):
     told = ["expected answers in ./proofs; `search` did not prove `returns`"] * own + [f"it calls `{one}`, which is not proved" for one in waits]
     print(f"fn {name}::lib::{function}: {'no proof: ' + '; '.join(told) if told else 'proved'}")
 print(f"fn {name}::lib::fn::first::map: proved where its callers give what it asks")
+if after("--only"):
+    sys.exit(print(f"only={len(after('--only'))} proved={len(after('--only')) - len(lost)}"))
 failed = lost or "wrong" in definition
 print("logic=not-proved" if failed else "logic=proved functions=3")
 sys.exit(bool(failed))
@@ -235,11 +239,22 @@ tried_again() {
         grep 'it was tried again' "$room/out"
     done > "$room/chosen"
     [ "$(sort -u "$room/chosen" | grep -c upper)" -gt 1 ] || complain "all texts choose the same: $(cat "$room/chosen")"
+    tries 'recorded edits over built libraries' 0 '5 passed, 0 failed' --again=commit --built
+    # Of a crate that is proved, the function that the record names is checked alone, and all if the edit changes a definition.
+    [ "$(tr -d "(',)" < "$room/checks" | sort)" = $'base first  lib::first 0\nupper definition  0' ] || complain "checks: $(cat "$room/checks")"
+    ! grep -q 'the record differs' "$room/out" || complain 'another record'
+    sed -i 's/base::lib::first/base::lib::second/' "$ward/crates/base/edits.txt"
+    tries 'another function written by hand' 1 '4 passed, 1 failed' --again=commit --built
+    tr -d "(',)" < "$room/checks" | grep -qx 'base first  0' || complain "checks: $(cat "$room/checks")"
+    tells 'the record has base::lib::second returns, and the prover base::lib::first returns'
+    writes
     sed -i 's/ returns$/ returns-clause-price/; s/ lemma$/ other/' "$ward"/crates/*/edits.txt
     tries 'goals written by hand' 0 '5 passed, 0 failed'
     tells '0 tried, 5 taken from the record'
-    tries 'goals written by hand, tried again' 1 '3 passed, 2 failed' --again=commit
-    tells 'base/first_left_out: the record has base::lib::first returns-clause-price, and the prover base::lib::first returns'
+    for built in '' --built; do
+        tries 'goals written by hand, tried again' 1 '3 passed, 2 failed' --again=commit $built
+        tells 'base/first_left_out: the record has base::lib::first returns-clause-price, and the prover base::lib::first returns'
+    done
     writes
     sed -i 's/$/ answer/' "$ward/crates/base/edits.txt"
     tries 'the word answer written by hand' 1 '4 passed, 1 failed' --again=commit
@@ -247,19 +262,26 @@ tried_again() {
     writes
 }
 
+# kills NUMBER: so many of the next checks are ended by a signal.
+kills() {
+    rm -rf "$room/killed"
+    mkdir "$room/killed"
+    (cd "$room/killed" && seq "$1" | xargs touch)
+}
+
 # A check that is ended by a signal says nothing of the record: its edit gets another turn, and then the record is taken.
 ended_checks() {
-    printf %1s '' > "$room/killed"
+    kills 1
     tries 'a check that is ended' 0 '5 passed, 0 failed' --again=commit --built
     tells '2 tried, 3 taken from the record'
-    printf %4s '' > "$room/killed"
+    kills 4
     tries 'checks that are ended twice' 0 '5 passed, 0 failed' --again=commit --built
     tells 'NOT ENDED: a signal ended the check twice'
     tells '0 tried, 5 taken from the record'
-    printf %20s '' > "$room/killed"
+    kills 20
     tries 'checks of new edits that are ended' 1 '0 passed, 5 failed' --anew --built
     tells 'base/first_left_out: NOT ENDED: a signal ended the check'
-    rm "$room/killed"
+    rm -r "$room/killed"
 }
 
 # must_fails [NAME WHAT]: `rt must-fail` says that each edit is refused, and of this one something else.
