@@ -54,7 +54,8 @@ for name in man apt-get; do
 done
 stand_in_for_clasp
 stand_in_for_cbc
-# A search of the planner that a page shows without --time has five seconds here, and the example ward begins on Monday, 30 Nov 2026.
+# A search of the planner that a page shows without --time has eight seconds of one processor here, and the example ward begins on Monday,
+# 30 Nov 2026.
 stand_in inrc2pb-plan << END
 #!/usr/bin/env bash
 case " \$* " in
@@ -62,9 +63,11 @@ case " \$* " in
 from inrc2pb.commands import ward
 print(*ward.new(pathlib.Path(sys.argv[1]), datetime.date(2026, 11, 28)), sep="\n")' "\$1" ;;
     *' --time '*) ;;
-    *' plan '* | *' ill '*) set -- "\$@" --time 5 ;;
+    *' plan '* | *' ill '*) set -- "\$@" --time 8 ;;
 esac
-exec '$room/work/python/inrc2pb-plan' "\$@"
+exec python3 -c 'import os, sys
+os.sched_setaffinity(0, [max(os.sched_getaffinity(0))])
+os.execv(sys.argv[1], sys.argv[1:])' '$room/work/python/inrc2pb-plan' "\$@"
 END
 
 # script_of PAGE: its shell blocks, each with a line that names it before, and its blocks of text to files of the room.
@@ -91,19 +94,24 @@ words_of() {
     sed -E 's/\b(Amara|Bruno|Chen|Dilek|Ewa|Finn|Grace)\b/NAME/g; s/\b(Mon|Tue|Wed|Thu|Fri|Sat|Sun)\b/DAY/g; s/[0-9]+( to [0-9]+)?/0/g' "$1"
 }
 
+# runs_script: the blocks of the page $what, in a new copy of the repository.
+runs_script() {
+    rm -rf "$room/work"
+    cp -a "$room/copy" "$room/work"
+    (cd "$room/work" && HOME=$room/home PATH=$room/bin:$room/work/python:$PATH LIMIT=20 timeout 1800 bash -eu "$room/script" < /dev/null)
+    case $? in
+        0) ;;
+        124) complain 'it does not end in 1800 s: the machine is slow, or a block waits' ;;
+        *) complain "a block ends with a fault: $(tail -n 3 "$room/$(basename "$what")".*.out)" ;;
+    esac
+}
+
 runs_blocks() {
     local page=$1 text
     what=$page
     script_of "$page" > "$room/script"
     checked=$((checked + $(grep -c '^exec > ' "$room/script")))
-    rm -rf "$room/work"
-    cp -r "$room/copy" "$room/work"
-    (cd "$room/work" && HOME=$room/home PATH=$room/bin:$room/work/python:$PATH LIMIT=20 timeout 1800 bash -eu "$room/script" < /dev/null)
-    case $? in
-        0) ;;
-        124) complain 'it does not end in 1800 s: the machine is slow, or a block waits' ;;
-        *) complain "a block ends with a fault: $(tail -n 3 "$room/$(basename "$page")".*.out)" ;;
-    esac
+    [ ! -s "$room/script" ] || runs_script
     for text in "$room/$(basename "$page")".*.{text,example}; do
         [ -e "$text" ] || continue
         case $text in
