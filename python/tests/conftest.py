@@ -1,12 +1,15 @@
 """Keeps the processor seconds of each test, from which tests/kit/check.py sees how many tests it can
 run."""
 
+import compileall
+import gc
 import json
 import os
 from pathlib import Path
 
 import pytest
 
+LIBRARY = Path(__file__).resolve().parents[1] / "inrc2pb"
 # A dictionary: tests, as pytest names them, and their seconds.
 KEPT = Path(__file__).resolve().parents[2] / "out" / "test-seconds.json"
 BEGAN = pytest.StashKey()
@@ -17,6 +20,20 @@ measured = {}
 def processor_seconds():
     """Those of this process, and of its children that have ended."""
     return sum(os.times()[:4])
+
+
+def pytest_configure(config):
+    """The library is compiled once, and not by each program that a test starts, if the caller wants
+    Python to keep no compiled files."""
+    if not hasattr(config, "workerinput"):
+        compileall.compile_dir(LIBRARY, quiet=2)
+
+
+def pytest_collection_finish():
+    """What the tests have loaded is no garbage. Each collection would look through all of it, and
+    one in a copy of this process would make the copy write, and so own, all of its pages."""
+    gc.collect()
+    gc.freeze()
 
 
 @pytest.hookimpl(tryfirst=True)

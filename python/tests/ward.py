@@ -2,6 +2,7 @@
 
 import contextlib
 import datetime
+import importlib
 import os
 import shutil
 import signal
@@ -21,8 +22,12 @@ sys.path.insert(0, str(HELPERS))
 
 from inrc2pb.programs import clock, program, progress  # noqa: E402
 from inrc2pb.week import files, records, writing  # noqa: E402, F401
-from inrc2pb.commands.command import launch  # noqa: E402
+from inrc2pb.commands.command import MODULES, launch  # noqa: E402
 from inrc2pb.judging.absences import with_requests  # noqa: E402
+
+# A copy of this process, as `run` makes it, then loads no command anew.
+for command in MODULES.values():
+    importlib.import_module(f"inrc2pb.commands.{command}")
 
 WARD = ROOT / "examples" / "ward"
 SCENARIO, HISTORY, WEEK, ROSTER = (

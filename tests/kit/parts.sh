@@ -55,6 +55,8 @@ scripts() {
 all_scripts() {
     local file word number=100 row good bad left
     [ $# -gt 0 ] || set -- llvm
+    # Not by each program that a script starts, if the caller wants Python to keep no compiled files.
+    python3 -m compileall -qq python/inrc2pb
     for word; do
         for file in $(scripts); do
             [ "$word" != rattle ] || [[ $file != @(python/tests/*|tests/pages/*|tests/random/*|tests/program/manual.sh) ]] || continue

@@ -4,8 +4,9 @@ statements about definitions.
 
     tests/pages/laws.py            prints the table of docs/promises.md
     tests/pages/laws.py all        prints every law
-    tests/pages/laws.py compare    compares the table of docs/promises.md with the crates, and
-                                   fails if they differ
+    tests/pages/laws.py compare    compares the table of docs/promises.md, and the names in
+                                   tests/pages/laws.txt, with the crates, and fails if they
+                                   differ, so that no law goes unseen
 
 A row has the name of a law and the first sentence of its comment.
 """
@@ -16,6 +17,7 @@ from typing import List, NamedTuple
 
 TOP = Path(__file__).resolve().parents[2]
 PAGE = TOP / "docs" / "promises.md"
+NAMES = TOP / "tests" / "pages" / "laws.txt"
 HEAD = "| law | statement |\n|---|---|\n"
 
 # The laws on the page, which link the rules, the model and a bound. Those that it prints itself, of the
@@ -62,10 +64,10 @@ def table(chosen: List[Law]) -> str:
 def main(words: List[str]) -> int:
     every = laws()
     on_page = table([law for law in every if law.name in ON_THE_PAGE])
-    gone = set(ON_THE_PAGE) - {law.name for law in every}
     if words == ["compare"]:
-        if gone:
-            print(f'tests/pages/laws.py names laws that are gone: {", ".join(sorted(gone))}')
+        differ = {law.name for law in every} ^ set(NAMES.read_text().split())
+        if differ:
+            print(f'{NAMES.relative_to(TOP)} and the crates differ in {", ".join(sorted(differ))}')
             return 1
         if on_page not in PAGE.read_text():
             print(

@@ -54,8 +54,7 @@ for name in man apt-get; do
 done
 stand_in_for_clasp
 stand_in_for_cbc
-# A search of the planner that a page shows without --time has eight seconds of one processor here, and the example ward begins on Monday,
-# 30 Nov 2026.
+# A search of the planner that a page shows without --time has five seconds here, and the example ward begins on Monday, 30 Nov 2026.
 stand_in inrc2pb-plan << END
 #!/usr/bin/env bash
 case " \$* " in
@@ -63,11 +62,9 @@ case " \$* " in
 from inrc2pb.commands import ward
 print(*ward.new(pathlib.Path(sys.argv[1]), datetime.date(2026, 11, 28)), sep="\n")' "\$1" ;;
     *' --time '*) ;;
-    *' plan '* | *' ill '*) set -- "\$@" --time 8 ;;
+    *' plan '* | *' ill '*) set -- "\$@" --time 5 ;;
 esac
-exec python3 -c 'import os, sys
-os.sched_setaffinity(0, [max(os.sched_getaffinity(0))])
-os.execv(sys.argv[1], sys.argv[1:])' '$room/work/python/inrc2pb-plan' "\$@"
+exec '$room/work/python/inrc2pb-plan' "\$@"
 END
 
 # script_of PAGE: its shell blocks, each with a line that names it before, and its blocks of text to files of the room.
