@@ -15,8 +15,8 @@ from ..week.faults import ProgramFault
 from ..week.soft_rules import SOFT_RULES
 from .processes import Processes
 
-# The exit statuses of `inrc2pb`, which docs/answers.md explains, and the one with which a shell reports
-# that there is no program.
+# The exit statuses of `inrc2pb`, which docs/answers.md explains, and the one with which a shell
+# reports that there is no program.
 FAULT = 1
 READ_OR_WRITE = 3
 OUT_OF_MEMORY = 4
