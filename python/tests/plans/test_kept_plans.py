@@ -704,7 +704,7 @@ class NotKept(KeptTest):
         for row in self.rows["contracts"][1:]:
             row[1:3] = ["0", "2!"]
         self.write()
-        status, printed, said = self.runs("plan")
+        status, printed, said = self.runs("plan", "--do")
         self.assertEqual(status, 6, said)
         self.assertRegex(
             printed,
