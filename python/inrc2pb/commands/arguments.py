@@ -7,7 +7,7 @@ import os
 import re
 import shlex
 import sys
-from typing import Any, List, Mapping, NoReturn, Optional, Sequence
+from typing import Any, Mapping, NoReturn, Sequence
 
 from ..programs.program import run_program
 from ..week.faults import Misuse
@@ -23,7 +23,7 @@ class _Once(argparse.Action):
         parser: argparse.ArgumentParser,
         namespace: argparse.Namespace,
         values: Any,
-        option: Optional[str] = None,
+        option: str | None = None,
     ) -> None:
         given = vars(namespace).setdefault("given", set())
         if option and self.dest in given:
@@ -40,7 +40,7 @@ class _Version(argparse.Action):
         parser: argparse.ArgumentParser,
         namespace: argparse.Namespace,
         values: Any,
-        option: Optional[str] = None,
+        option: str | None = None,
     ) -> None:
         print(run_program("--version"), end="")
         parser.exit()
@@ -63,7 +63,7 @@ class Parser(argparse.ArgumentParser):
             "--version", action=_Version, nargs=0, help="print the version of inrc2pb and exit"
         )
 
-    def parse_args(self, args: Optional[Sequence[str]] = None, namespace: Any = None) -> Any:
+    def parse_args(self, args: Sequence[str] | None = None, namespace: Any = None) -> Any:
         """Returns the values of the command line. A mistake is printed, and ends the program."""
         self._given = sys.argv[1:] if args is None else list(args)
         for word in self._given:
@@ -114,7 +114,7 @@ def _about_words(unknown: str, given: Sequence[str]) -> str:
     return ": rename a file or folder whose path has a blank, and write an option before each file"
 
 
-def parser(description: str, epilog: Optional[str] = None, verb: str = "") -> Parser:
+def parser(description: str, epilog: str | None = None, verb: str = "") -> Parser:
     """A parser whose help keeps the lines of its description. An option has to be written out, as
     for `inrc2pb`. `verb` follows the name of the command."""
     command = os.path.basename(sys.argv[0])
@@ -147,10 +147,10 @@ def as_typed(words: Sequence[object]) -> str:
     return " ".join(shlex.quote(str(word)) for word in words)
 
 
-def options_first(words: Sequence[str]) -> List[str]:
+def options_first(words: Sequence[str]) -> list[str]:
     """The words with the options before all others, as the parser wants them."""
-    options: List[str] = []
-    others: List[str] = []
+    options: list[str] = []
+    others: list[str] = []
     for before, word in zip(["", *words], words):
         is_value = before in (
             "--time",

@@ -4,7 +4,7 @@ correct it, and warns of odd values."""
 import argparse
 import os
 from pathlib import Path
-from typing import Callable, Iterator, List, Optional, Tuple, TypeVar
+from typing import Callable, Iterator, TypeVar
 
 from ..judging.absences import absences_of, working_while_away
 from ..judging.breaches import explained, other_week, read_held, read_roster
@@ -45,12 +45,12 @@ class Check:
 
     def __init__(self, given: argparse.Namespace) -> None:
         self.given = given
-        self.week_file: Optional[Path] = next(iter(given.week), None)
-        self.fix_file: Optional[Path] = fix_files(given.fix, 1).get(0)
+        self.week_file: Path | None = next(iter(given.week), None)
+        self.fix_file: Path | None = fix_files(given.fix, 1).get(0)
         self.mistakes = 0
         self.impossible = False
 
-    def reads(self, reader: Callable[[], Contents]) -> Optional[Contents]:
+    def reads(self, reader: Callable[[], Contents]) -> Contents | None:
         """Returns the contents of a file, or None after a mistake."""
         try:
             return reader()
@@ -76,7 +76,7 @@ class Check:
         if name != scenario.name:
             yield f"it is of '{name}', and the scenario is '{scenario.name}'"
 
-    def held(self, path: Path, scenario: Scenario, history: Optional[History]) -> List[Cell]:
+    def held(self, path: Path, scenario: Scenario, history: History | None) -> list[Cell]:
         """Checks a fix file: its assignments, if it has no mistake."""
         solution = self.reads(
             lambda: read_held(
@@ -85,12 +85,12 @@ class Check:
         )
         return list(solution.cells) if solution else []
 
-    def roster(self, path: Path, scenario: Scenario, history: Optional[History]) -> None:
+    def roster(self, path: Path, scenario: Scenario, history: History | None) -> None:
         """Checks a roster."""
         if self.reads(lambda: read_roster(path, scenario, history)):
             self.warns(path, filter(None, [other_week(path, scenario, history)]))
 
-    def history(self, scenario: Scenario) -> Optional[History]:
+    def history(self, scenario: Scenario) -> History | None:
         """Checks the history."""
         path = self.given.his
 
@@ -105,9 +105,7 @@ class Check:
             self.warns(path, history_warnings(history, scenario))
         return history
 
-    def week_data(
-        self, path: Path, scenario: Scenario, history: Optional[History]
-    ) -> Optional[WeekData]:
+    def week_data(self, path: Path, scenario: Scenario, history: History | None) -> WeekData | None:
         """Checks the week data."""
         facts = self.given.facts
         data = self.reads(lambda: read_week(path, scenario))
@@ -120,7 +118,7 @@ class Check:
             self.warns(path, demand_warnings(scenario, history, data))
         return data
 
-    def all_files(self) -> Tuple[Optional[Week], List[Cell]]:
+    def all_files(self) -> tuple[Week | None, list[Cell]]:
         """Checks each file that is given: the week, if its three files have no mistake, and the
         held assignments."""
         given = self.given
@@ -149,9 +147,9 @@ class Check:
     def tell(
         self,
         scenario: Scenario,
-        history: Optional[History],
-        data: Optional[WeekData],
-        held: List[Cell],
+        history: History | None,
+        data: WeekData | None,
+        held: list[Cell],
     ) -> None:
         """Prints the files in sentences."""
         lines = [ward_sentence(scenario), *scenario_sentences(scenario), ""]
@@ -166,7 +164,7 @@ class Check:
         lines += [*held_sentences(held), ""] if held else []
         print(readable("\n".join(lines)))
 
-    def model(self, week: Week, held: List[Cell]) -> None:
+    def model(self, week: Week, held: list[Cell]) -> None:
         """Lets `inrc2pb` check the files too. If it cannot be run, the rosters are compared with
         `rules`, and a warning says so."""
         files = the_week(self.given)
@@ -205,7 +203,7 @@ def _said(fault: ProgramFault) -> str:
     return str(fault) if fault.status in (FAULT, BROKEN_RULE) else fault_line(fault)
 
 
-def _compare(roster: Path, week: Week, held: List[Cell]) -> None:
+def _compare(roster: Path, week: Week, held: list[Cell]) -> None:
     """Raises the fault of `inrc2pb extend` if the roster breaks a hard rule."""
     rule = first_broken(week, read_solution(roster, week.scenario).cells, held)
     if rule:

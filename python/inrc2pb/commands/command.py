@@ -8,7 +8,7 @@ import io
 import os
 import signal
 import sys
-from typing import Callable, Iterator, Optional, TextIO, cast
+from typing import Callable, Iterator, TextIO, cast
 
 from ..programs.interrupts import Interrupted
 from ..programs.own_folder import own_folder
@@ -82,7 +82,7 @@ class _Closed(io.TextIOBase):
             raise OSError(errno.EBADF, "it is closed", "standard output")
 
 
-def _standard_output(stream: Optional[TextIO]) -> TextIO:
+def _standard_output(stream: TextIO | None) -> TextIO:
     """The stream, which writes UTF-8 from now on."""
     if stream is None:
         # No other file gets the descriptor.
@@ -103,7 +103,7 @@ def _standard_output(stream: Optional[TextIO]) -> TextIO:
     )
 
 
-def _standard_error(stream: Optional[TextIO]) -> TextIO:
+def _standard_error(stream: TextIO | None) -> TextIO:
     """The stream, of which no write fails from now on. One of a script, without a descriptor, stays
     as it is."""
     stream = stream or open(os.devnull, "w")
@@ -119,7 +119,7 @@ def _standard_error(stream: Optional[TextIO]) -> TextIO:
     )
 
 
-def run(main: Callable[[], Optional[int]]) -> None:
+def run(main: Callable[[], int | None]) -> None:
     """Runs a command and exits: each fault is one line on standard error, with status 1 or the
     program's own."""
     name = os.path.basename(sys.argv[0])
@@ -160,7 +160,7 @@ def run(main: Callable[[], Optional[int]]) -> None:
     sys.exit(status)
 
 
-def _status_of(main: Callable[[], Optional[int]]) -> int:
+def _status_of(main: Callable[[], int | None]) -> int:
     """Runs a command; its exit status. After `--help` its parser exits: what it has printed is not
     written yet."""
     try:

@@ -7,7 +7,7 @@ import sys
 import time
 from dataclasses import replace
 from pathlib import Path
-from typing import Optional, Sequence, Tuple
+from typing import Sequence
 
 from ..programs.clock import Clock
 from ..programs.inputs import Inputs
@@ -57,7 +57,7 @@ def search_seconds(timeout: float, used: float) -> float:
 
 def plan_ahead(
     weeks: PlannedWeeks, solution: Path, seconds: float, inputs: Sequence[Path]
-) -> Tuple[Report, Optional[BaseException]]:
+) -> tuple[Report, BaseException | None]:
     """Plans the week, which is the first of all weeks that are left, and writes its roster, which
     takes the place of no input. Also returns the fault that ended the search after the roster was
     found."""
@@ -75,7 +75,7 @@ def plan_ahead(
         file.write(text)
 
     running = PeriodSearch(weeks, keep, Clock(seconds), Progress(None))
-    ended: Optional[BaseException] = None
+    ended: BaseException | None = None
     with interrupts() as signals, signals.calling(running.interrupt):
         try:
             running.run()
@@ -90,7 +90,7 @@ def plan_ahead(
 
 def _planned(
     given: argparse.Namespace, weeks: PlannedWeeks, seconds: float
-) -> Tuple[Report, Optional[BaseException]]:
+) -> tuple[Report, BaseException | None]:
     """The report of the week's roster, and the fault that ended its search after the roster was
     found."""
     inputs = [given.sce, given.his, given.week]

@@ -4,7 +4,7 @@ import errno
 import os
 import sys
 from pathlib import Path
-from typing import ContextManager, Dict, Iterable, List, Optional, Sequence
+from typing import ContextManager, Iterable, Sequence
 
 from ..judging.next_history import next_history
 from ..programs.clock import Clock
@@ -39,7 +39,7 @@ class Period:
         self,
         files: PeriodFiles,
         folder: Path,
-        proof: Optional[Path] = None,
+        proof: Path | None = None,
         seed: int = 1,
         starts: Sequence[Path] = (),
     ) -> None:
@@ -64,8 +64,8 @@ class Period:
                 f"--roster has {plural(len(starts), 'file')} for {weeks}: give one for each, in"
                 " their order"
             )
-        self.reports: Dict[int, Report] = {}
-        self.bound_lines: List[str] = []
+        self.reports: dict[int, Report] = {}
+        self.bound_lines: list[str] = []
         for number in self.numbers:
             # Files of an earlier run may be replaced.
             check_inputs_stay(
@@ -133,14 +133,14 @@ class Period:
                 self.bound_lines = [running.line()]
             self._end(signals)
 
-    def _earlier(self) -> Optional[List[Cell]]:
+    def _earlier(self) -> list[Cell] | None:
         """The plan to begin with, with days from the first week on: the one that was given, or that
         the folder has; None if it has none of these weeks, or others come after them."""
         if not self._starts:
             return None if self.weeks.later() else self._plan_folder.others()
         return list(in_plan(roster.cells for roster in self._starts)) or None
 
-    def plan_one_by_one(self, seconds: float, solver: Optional[str]) -> None:
+    def plan_one_by_one(self, seconds: float, solver: str | None) -> None:
         """Plans each week before the next one, by the search over one week or a user's own solver,
         in an equal part of the time that is left. After a fault, or if the user stops it, the weeks
         that have a roster have their files and reports."""
@@ -174,7 +174,7 @@ class Period:
             self._end(signals)
 
     def _plan_one(
-        self, number: int, week: WrittenWeek, seconds: float, solver: Optional[str]
+        self, number: int, week: WrittenWeek, seconds: float, solver: str | None
     ) -> SearchResult:
         """Plans one week, and reports it."""
         progress = Progress(sys.stderr, self._inputs.named)
@@ -202,7 +202,7 @@ class Period:
         self.reports[number] = report
         print(f"{week_name(number)}: penalty {report.penalty}, {roster}", flush=True)
 
-    def changes(self) -> List[str]:
+    def changes(self) -> list[str]:
         """A line for each file that was read and has something else now."""
         return self._inputs.changes()
 
@@ -228,7 +228,7 @@ class Period:
             )
         signals.check()
 
-    def table(self) -> List[str]:
+    def table(self) -> list[str]:
         """The penalty and the costs of each week, and their sums."""
         weeks = {
             week_name(number): [report.penalty, *report.by_rule.values()]

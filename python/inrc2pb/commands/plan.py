@@ -8,7 +8,6 @@ import shlex
 import socket
 import sys
 from pathlib import Path
-from typing import List, Optional
 from urllib.parse import urlsplit
 
 from ..page.jobs import Jobs
@@ -219,7 +218,7 @@ def _check_address(given: argparse.Namespace) -> None:
         raise Misuse(f"--host '{given.host}' is no address that a browser can open: {cure}")
 
 
-def _number_of(host: str) -> Optional[ipaddress.IPv4Address]:
+def _number_of(host: str) -> ipaddress.IPv4Address | None:
     """The number that a host has, if this machine finds one."""
     try:
         return ipaddress.IPv4Address(socket.gethostbyname(host))
@@ -267,7 +266,7 @@ def _serve(folder: WardFolder, given: argparse.Namespace) -> None:
         server.run(signals)
 
 
-def _files(given: argparse.Namespace) -> List[str]:
+def _files(given: argparse.Namespace) -> list[str]:
     """Writes the text files of the ward, whose folder or spreadsheet is given. Returns the lines to
     print."""
     is_file = given.folder.is_file()
@@ -286,7 +285,7 @@ def _verbs(folder: WardFolder) -> Verbs:
     return Verbs(folder, Means(WardProgress(sys.stderr), _say))
 
 
-def main() -> Optional[int]:
+def main() -> int | None:
     """The command `inrc2pb-plan`."""
     given = _options().parse_args(options_first(sys.argv[1:]))
     _check(given)
@@ -305,8 +304,8 @@ def main() -> Optional[int]:
     if given.verb == "serve":
         _serve(folder, given)
         return 0
-    verbs: Optional[Verbs] = None
-    last: Optional[Path] = None
+    verbs: Verbs | None = None
+    last: Path | None = None
     try:
         with folder.locked(_say, "; Ctrl-C ends it"):
             # The time of a search begins here.

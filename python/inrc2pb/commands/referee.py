@@ -4,7 +4,7 @@ import argparse
 import sys
 import tempfile
 from pathlib import Path
-from typing import List, NamedTuple, Optional, Sequence
+from typing import NamedTuple, Sequence
 
 from ..programs.clock import Clock
 from ..programs.inputs import Inputs
@@ -76,7 +76,7 @@ def options() -> Parser:
     return referee
 
 
-def _read(given: argparse.Namespace, files: WeekFiles) -> List[Path]:
+def _read(given: argparse.Namespace, files: WeekFiles) -> list[Path]:
     """The files that are read."""
     proof = [given.proof] if given.proof else []
     return [*files.all(), *given.answer, *given.roster, *proof]
@@ -116,7 +116,7 @@ def main(given: argparse.Namespace) -> int:
 
 
 class _Judged(NamedTuple):
-    verdicts: List[Verdict]
+    verdicts: list[Verdict]
     # Those that came during the search.
     signals: Interrupts
 
@@ -124,7 +124,7 @@ class _Judged(NamedTuple):
 def _judge(
     given: argparse.Namespace,
     files: WeekFiles,
-    proof: Optional[Path],
+    proof: Path | None,
     progress: Progress,
     folder: Path,
     read: Sequence[Path],
@@ -139,7 +139,7 @@ def _judge(
         referee.best.resume()
     for roster in given.roster:
         referee.tell(roster, str(roster))
-    answers: List[Answered] = []
+    answers: list[Answered] = []
     for path in given.answer:
         answers.append(read_answer(files, path, folder / "answered.txt"))
         if answers[-1].penalty is not None:

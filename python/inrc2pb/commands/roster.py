@@ -4,7 +4,7 @@ import argparse
 import itertools
 import sys
 from pathlib import Path
-from typing import Callable, Iterator, List, NamedTuple, Optional, Sequence
+from typing import Callable, Iterator, NamedTuple, Sequence
 
 from ..judging.absences import absences_of
 from ..judging.demand import can_work
@@ -304,7 +304,7 @@ def _help() -> Parser:
     return options
 
 
-def main(words: Optional[List[str]] = None) -> int:
+def main(words: list[str] | None = None) -> int:
     """The command `inrc2pb-roster`."""
     given = sys.argv[1:] if words is None else words
     if given[:1] in (["--help"], ["-h"], ["--version"]):

@@ -7,7 +7,7 @@ import io
 import os
 import sys
 from pathlib import Path
-from typing import Iterable, Optional, Sequence
+from typing import Iterable, Sequence
 
 from ..shown.calendars import issue_now, shift_dates, write_calendars
 from ..shown.changes import changed_lines
@@ -154,9 +154,7 @@ def warn(view: RosterView) -> None:
         print(f"{os.path.basename(sys.argv[0])}: {warning}", file=sys.stderr)
 
 
-def write_result(
-    text: str, target: Optional[Path], inputs: Sequence[Optional[Path]], what: str
-) -> None:
+def write_result(text: str, target: Path | None, inputs: Sequence[Path | None], what: str) -> None:
     """Writes the text to the file, or to standard output. Raises Misuse if the file is one of
     these, which are read."""
     if target is None:
@@ -166,7 +164,7 @@ def write_result(
     write_text(target, text)
 
 
-def _check_options(given: argparse.Namespace, inputs: Sequence[Optional[Path]]) -> None:
+def _check_options(given: argparse.Namespace, inputs: Sequence[Path | None]) -> None:
     """Options that need others, or do not fit them."""
     if given.old and given.csv:
         raise Misuse("--old is for the table and --html: leave it out")

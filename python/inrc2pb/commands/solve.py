@@ -6,7 +6,6 @@ import contextlib
 import os
 import sys
 from pathlib import Path
-from typing import List, Optional
 
 from ..programs.interrupts import interrupts
 from ..programs.progress import Progress
@@ -201,7 +200,7 @@ def _search(given: argparse.Namespace) -> int:
     return _several_weeks(given)
 
 
-def main(words: Optional[List[str]] = None) -> int:
+def main(words: list[str] | None = None) -> int:
     """The command `inrc2pb-solve`."""
     given = sys.argv[1:] if words is None else words
     named = {word.split("=")[0] for word in given}

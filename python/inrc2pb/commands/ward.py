@@ -5,7 +5,7 @@ import contextlib
 import datetime
 from collections import Counter
 from pathlib import Path
-from typing import Dict, Iterator, List, TextIO, Tuple
+from typing import Iterator, TextIO
 
 from ..judging.leave import credit_line
 from ..plans.ward_folder import has_spreadsheet
@@ -23,7 +23,7 @@ from .arguments import as_typed
 TEMPLATE = "ward.ods"
 
 
-def _reasons(text: str) -> List[str]:
+def _reasons(text: str) -> list[str]:
     """The reasons of absences that count as work."""
     reasons = text.split(",") if text not in ("", "none") else []
     for word in reasons:
@@ -54,19 +54,19 @@ def _old_histories(folder: Path, first: str, weeks: int) -> Iterator[str]:
         )
 
 
-def _nurse_rows(history: str) -> Dict[str, List[str]]:
+def _nurse_rows(history: str) -> dict[str, list[str]]:
     """The words of each nurse's line in the text of a history."""
     return {words[0]: words for words in map(str.split, history.splitlines()) if len(words) == 7}
 
 
-def _write(folder: Path, texts: Dict[str, str]) -> None:
+def _write(folder: Path, texts: dict[str, str]) -> None:
     """Writes all files, or none of them."""
     folder.mkdir(parents=True, exist_ok=True)
     for path in (folder / name for name in texts):
         if not path.is_symlink():
             check_target(path)
     with contextlib.ExitStack() as stack:
-        targets: List[Tuple[TextIO, str]] = [
+        targets: list[tuple[TextIO, str]] = [
             (stack.enter_context(replacing_link(folder / name)), text)
             for name, text in texts.items()
         ]
@@ -75,7 +75,7 @@ def _write(folder: Path, texts: Dict[str, str]) -> None:
             target.flush()
 
 
-def new(folder: Path, today: datetime.date) -> List[str]:
+def new(folder: Path, today: datetime.date) -> list[str]:
     """Writes an example spreadsheet into the folder, which is made if there is none; its plan
     begins on the Monday after this day. Returns the lines to print.
 
@@ -92,7 +92,7 @@ def new(folder: Path, today: datetime.date) -> List[str]:
     ]
 
 
-def files(tables: Path, out: Path, credit: str, requests: bool) -> List[str]:
+def files(tables: Path, out: Path, credit: str, requests: bool) -> list[str]:
     """Writes the text files of a ward into the folder `out`, all or none of them. Returns the lines
     to print.
 

@@ -4,7 +4,7 @@ a solver, and seconds."""
 import argparse
 import re
 from pathlib import Path
-from typing import Dict, Sequence
+from typing import Sequence
 from ..programs.program import WeekFiles
 from ..week.faults import Misuse
 
@@ -23,13 +23,13 @@ def number_of_seconds(text: str) -> float:
         ) from None
 
 
-def fix_files(texts: Sequence[str], weeks: int) -> Dict[int, Path]:
+def fix_files(texts: Sequence[str], weeks: int) -> dict[int, Path]:
     """The fix files of some weeks, by the week's index among this number of weeks, from 0.
 
     Each is given as `N=FILE`, where N is 1 for the first week, or as `FILE` if there is only one
     week. Raises Misuse if there is no such week, or if it has two files.
     """
-    fixes: Dict[int, Path] = {}
+    fixes: dict[int, Path] = {}
     for text in texts:
         match = re.fullmatch("([0-9]{1,4})=(.+)", text, re.DOTALL)
         if not match and weeks > 1:

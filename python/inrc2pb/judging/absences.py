@@ -7,7 +7,7 @@ keeps it.
 
 import collections
 from dataclasses import replace
-from typing import Collection, Dict, FrozenSet, Iterable, List, NamedTuple, Sequence, Tuple
+from typing import Collection, Iterable, NamedTuple, Sequence
 
 from ..week.records import DAYS, Absence, Cell, Request, Scenario, WeekData
 from ..week.slots import MAX_NUMBER
@@ -20,13 +20,13 @@ MOST_REQUESTS = 200
 ROWS = 9000
 
 
-def absences_of(data: WeekData) -> FrozenSet[Absence]:
+def absences_of(data: WeekData) -> frozenset[Absence]:
     """The absences of a week: those of the facts, and those that its file has as requests."""
     number = collections.Counter(map(_asked, data.requests))
     return data.absences | frozenset(absence for absence, times in number.items() if times >= MARK)
 
 
-def wishes_of(data: WeekData) -> Tuple[Request, ...]:
+def wishes_of(data: WeekData) -> tuple[Request, ...]:
     """The requests that are no absences, in the order of the file."""
     away = absences_of(data)
     return tuple(request for request in data.requests if _asked(request) not in away)
@@ -44,7 +44,7 @@ def is_broken_by(absences: Collection[Absence], cell: Cell) -> bool:
     )
 
 
-def working_while_away(absences: Collection[Absence], cells: Iterable[Cell]) -> List[Cell]:
+def working_while_away(absences: Collection[Absence], cells: Iterable[Cell]) -> list[Cell]:
     """The rows that break an absence, in their order."""
     return [cell for cell in cells if is_broken_by(absences, cell)]
 
@@ -52,7 +52,7 @@ def working_while_away(absences: Collection[Absence], cells: Iterable[Cell]) -> 
 def in_words(cells: Iterable[Cell], names: Sequence[str] = DAYS) -> str:
     """Who works when, as `Chen works Late on Fri and Sat, Grace works Night on Sun`. The days of
     the week have these names."""
-    days: Dict[Tuple[str, str], List[int]] = {}
+    days: dict[tuple[str, str], list[int]] = {}
     for cell in cells:
         days.setdefault((cell.nurse, cell.shift), []).append(cell.day)
     return ", ".join(

@@ -3,7 +3,7 @@ with the line of its file."""
 
 import re
 from pathlib import Path
-from typing import Callable, Dict, Iterable, Iterator, List, NamedTuple, Optional, Sequence, Tuple
+from typing import Callable, Iterable, Iterator, NamedTuple, Sequence
 
 from ..week.faults import FileFault, ProgramFault
 from ..week.files import read_solution
@@ -12,7 +12,7 @@ from ..week.slots import text_of, tokens_of
 from ..week.words import plural
 from .rules import numbers
 
-Shifts = Dict[Tuple[str, int], List[str]]
+Shifts = dict[tuple[str, int], list[str]]
 # The indices of the week's number, of the scenario's name and of the first row among the tokens of
 # a solution file, and the number of tokens of a row.
 _NUMBER = 1
@@ -93,7 +93,7 @@ def held_breaches(cells: Iterable[Cell], held: Iterable[Cell]) -> Iterator[Breac
     )
 
 
-def breaches(week: Week, cells: Sequence[Cell], held: Iterable[Cell] = ()) -> List[Breach]:
+def breaches(week: Week, cells: Sequence[Cell], held: Iterable[Cell] = ()) -> list[Breach]:
     """Everything by which the roster breaks hard rules, in the order of the rules."""
     shifts: Shifts = {
         (past.nurse, -1): [past.last_shift]
@@ -116,13 +116,13 @@ class Misfit(NamedTuple):
     reason: str
 
 
-def _lines(text: str) -> List[int]:
+def _lines(text: str) -> list[int]:
     """The line of each token."""
     return [token.line for token in tokens_of(text)]
 
 
 def other_week(
-    path: Path, scenario: Scenario, history: Optional[History], text: Optional[str] = None
+    path: Path, scenario: Scenario, history: History | None, text: str | None = None
 ) -> str:
     """The line in which the file names another ward or week than these, and the probable mistake;
     else nothing."""
@@ -145,13 +145,13 @@ def other_week(
     return ""
 
 
-def _hint(path: Path, scenario: Scenario, history: Optional[History]) -> str:
+def _hint(path: Path, scenario: Scenario, history: History | None) -> str:
     """The same as the end of a fault."""
     other = other_week(path, scenario, history)
     return f"; {other}" if other else ""
 
 
-def read_roster(path: Path, scenario: Scenario, history: Optional[History]) -> Solution:
+def read_roster(path: Path, scenario: Scenario, history: History | None) -> Solution:
     """Reads a roster or a fix file. Raises FileFault if it has a mistake; if it is of another ward
     or week, the fault says that too."""
     try:
@@ -163,7 +163,7 @@ def read_roster(path: Path, scenario: Scenario, history: Optional[History]) -> S
 
 
 def misfits(
-    path: Path, solution: Solution, scenario: Scenario, history: Optional[History]
+    path: Path, solution: Solution, scenario: Scenario, history: History | None
 ) -> Iterator[Misfit]:
     """The rows that break H1, H3 or H4, alone or with rows above them, in the order of the file."""
     pasts = history.nurses.values() if history else ()
@@ -177,7 +177,7 @@ def misfits(
 
 
 def read_held(
-    path: Path, scenario: Scenario, history: Optional[History], warn: Callable[[str], None]
+    path: Path, scenario: Scenario, history: History | None, warn: Callable[[str], None]
 ) -> Solution:
     """Reads a fix file. `warn` gets the hint if the file is of another ward or week. Raises
     FileFault if no roster can have one of its rows."""

@@ -4,7 +4,7 @@ variables and constraints in words."""
 import re
 from array import array
 from itertools import product
-from typing import Iterable, Iterator, List, NamedTuple, Sequence, Tuple
+from typing import Iterable, Iterator, NamedTuple, Sequence
 
 from ..week.records import DAYS, Cell, Limits, Place, Week
 
@@ -33,7 +33,7 @@ def patterns_of(history: int, limits: Limits) -> int:
     return closed * (11 - closed) // 2 + max(0, edge)
 
 
-def _places(week: Week) -> List[Place]:
+def _places(week: Week) -> list[Place]:
     """All places in the order of the model."""
     return [
         Place(*place)
@@ -68,7 +68,7 @@ def _hard_blocks(week: Week, held: Sequence[Cell]) -> Iterator[Block]:
         yield Block("H5", f"{row.row()} is held", 1)
 
 
-def _cell_key(week: Week, cell: Cell) -> Tuple[int, int, int, int]:
+def _cell_key(week: Week, cell: Cell) -> tuple[int, int, int, int]:
     scenario = week.scenario
     shifts = list(scenario.shift_types)
     nurses = list(scenario.nurses)

@@ -1,7 +1,7 @@
 """Days away that concern the days beside them: training is work in a row, and before training or
 leave nobody should have a night shift."""
 
-from typing import Collection, FrozenSet, Iterator, List, Mapping, NamedTuple
+from typing import Collection, Iterator, Mapping, NamedTuple
 
 from ..week.records import History, NurseDay, Scenario
 
@@ -12,9 +12,9 @@ class DaysAway(NamedTuple):
     Monday of the plan; those before `fixed` do not change.
     """
 
-    training: FrozenSet[NurseDay] = frozenset()
-    free: FrozenSet[NurseDay] = frozenset()
-    nights: FrozenSet[str] = frozenset()
+    training: frozenset[NurseDay] = frozenset()
+    free: frozenset[NurseDay] = frozenset()
+    nights: frozenset[str] = frozenset()
     fixed: int = 0
 
     def of(self, nurse: str) -> "DaysAway":
@@ -31,7 +31,7 @@ class LongRow(NamedTuple):
     `number` is with the days before Monday."""
 
     nurse: str
-    days: List[int]
+    days: list[int]
     number: int
     most: int
 
@@ -49,9 +49,9 @@ def long_rows(
                 yield LongRow(nurse, days, number, most)
 
 
-def _in_a_row(days: Collection[int]) -> Iterator[List[int]]:
+def _in_a_row(days: Collection[int]) -> Iterator[list[int]]:
     """The days in groups of days that follow one another."""
-    row: List[int] = []
+    row: list[int] = []
     for day in sorted(days):
         if row and day != row[-1] + 1:
             yield row
@@ -61,7 +61,7 @@ def _in_a_row(days: Collection[int]) -> Iterator[List[int]]:
         yield row
 
 
-def nights_before(away: DaysAway, works: Mapping[NurseDay, str]) -> List[NurseDay]:
+def nights_before(away: DaysAway, works: Mapping[NurseDay, str]) -> list[NurseDay]:
     """The days of `free` to which nurses come from a night shift, if they have these shift
     types."""
     return [

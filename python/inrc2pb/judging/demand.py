@@ -3,7 +3,7 @@ for and contracts supply."""
 
 import math
 from fractions import Fraction
-from typing import Collection, Dict, Iterator, List, Mapping, NamedTuple, Optional, Sequence, Tuple
+from typing import Collection, Iterator, Mapping, NamedTuple, Sequence
 
 from ..week.facts import SHIFTS
 from ..week.records import DAYS, Absence, Cell, History, Place, Scenario, WeekData
@@ -26,11 +26,11 @@ class _Short(NamedTuple):
 
 
 def demand_warnings(
-    scenario: Scenario, history: Optional[History], data: WeekData, paid: Paid = ()
+    scenario: Scenario, history: History | None, data: WeekData, paid: Paid = ()
 ) -> Iterator[Warned]:
     """Warnings of days for which no choice of nurses fills all minimum numbers, and of more shifts
     than the contracts supply."""
-    days_of: Dict[Warned, List[str]] = {}
+    days_of: dict[Warned, list[str]] = {}
     for day, name in enumerate(DAYS):
         always = _shortage(scenario, history, data, day, ())
         there = _shortage(scenario, history, data, day, absences_of(data))
@@ -56,7 +56,7 @@ def demand_warnings(
         yield Warned(f"{supply}: if all weeks ask for so many, each shift above costs points")
 
 
-def asked_shifts(data: WeekData) -> Tuple[int, int]:
+def asked_shifts(data: WeekData) -> tuple[int, int]:
     """The minimum and the best number of shifts of the week."""
     return sum(needed.minimum for needed in data.requirements.values()), sum(
         max(needed.minimum, needed.optimal) for needed in data.requirements.values()
@@ -64,8 +64,8 @@ def asked_shifts(data: WeekData) -> Tuple[int, int]:
 
 
 def supplied_shifts(
-    scenario: Scenario, history: Optional[History], paid: Paid = ()
-) -> Tuple[int, int]:
+    scenario: Scenario, history: History | None, paid: Paid = ()
+) -> tuple[int, int]:
     """The shifts that the contracts ask for at least and allow at most in the first of the weeks
     that are left, rounded outwards: the same part for each week, without the shifts of its own days
     away that count as work."""
@@ -135,7 +135,7 @@ def supply_warnings(
 
 def can_work(
     scenario: Scenario,
-    history: Optional[History],
+    history: History | None,
     away: Collection[Absence],
     nurse: str,
     place: Place,
@@ -148,11 +148,11 @@ def can_work(
 
 def _shortage(
     scenario: Scenario,
-    history: Optional[History],
+    history: History | None,
     data: WeekData,
     day: int,
     away: Collection[Absence],
-) -> Optional[_Short]:
+) -> _Short | None:
     """The places of a day that need more nurses at once than could fill them, if there are any."""
     places = [
         place
@@ -166,7 +166,7 @@ def _shortage(
         ]
         for place in set(places)
     }
-    filled: Dict[str, int] = {}
+    filled: dict[str, int] = {}
     for slot in range(len(places)):
         tried = _fill(slot, places, could, filled)
         if tried is not None:
@@ -177,11 +177,11 @@ def _shortage(
 
 
 def _fill(
-    slot: int, places: Sequence[Place], could: Dict[Place, List[str]], filled: Dict[str, int]
-) -> Optional[List[str]]:
+    slot: int, places: Sequence[Place], could: dict[Place, list[str]], filled: dict[str, int]
+) -> list[str] | None:
     """Finds a nurse for a place, if need be by giving others another place. If there is none,
     returns all nurses who were tried."""
-    came: Dict[str, int] = {}
+    came: dict[str, int] = {}
     waiting = [slot]
     for other in waiting:
         for nurse in could[places[other]]:
@@ -195,7 +195,7 @@ def _fill(
     return list(came)
 
 
-def _move(nurse: str, slot: int, came: Dict[str, int], filled: Dict[str, int]) -> None:
+def _move(nurse: str, slot: int, came: dict[str, int], filled: dict[str, int]) -> None:
     """Gives the nurse the place for which she was tried, the nurse of that place another one, and
     so on up to the slot."""
     holders = {left: who for who, left in filled.items()}

@@ -11,7 +11,7 @@ import math
 import re
 from dataclasses import replace
 from fractions import Fraction
-from typing import Collection, Dict, Iterable, Mapping, NamedTuple, Optional
+from typing import Collection, Iterable, Mapping, NamedTuple
 
 from ..week.faults import Misuse
 from ..week.records import WEEK_DAYS, History, NurseDay, Scenario
@@ -33,9 +33,9 @@ class Counted(NamedTuple):
     shifts: Mapping[str, int] = {}
     weekends: Mapping[str, int] = {}
 
-    def of_week(self, number: int) -> Dict[str, Fraction]:
+    def of_week(self, number: int) -> dict[str, Fraction]:
         """The shifts of each nurse's days away in a week, counted from 0."""
-        sums: Dict[str, Fraction] = {}
+        sums: dict[str, Fraction] = {}
         for (nurse, day), shifts in self.days.items():
             if day // WEEK_DAYS == number:
                 sums[nurse] = sums.get(nurse, Fraction(0)) + shifts
@@ -140,7 +140,7 @@ class PartContract(NamedTuple):
         return f"{self.whole}{part}{'_any_days_off' if self.any_days_off else ''}"
 
 
-def part_contract(name: str, contracts: Iterable[str]) -> Optional[PartContract]:
+def part_contract(name: str, contracts: Iterable[str]) -> PartContract | None:
     """What the name of a contract says, if it is a part of another one of these."""
     match = _NAME.fullmatch(name)
     if not match or match[1] == name or match[1] not in contracts:

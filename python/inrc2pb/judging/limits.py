@@ -2,7 +2,7 @@
 instead; and the facts that plans are asked to keep, as the absences and limits of weeks."""
 
 from dataclasses import replace
-from typing import Collection, Iterable, Iterator, List, Optional, Sequence, Tuple
+from typing import Collection, Iterable, Iterator, Sequence
 
 from ..week.facts import (
     SHIFTS,
@@ -26,10 +26,10 @@ from .rules import SATURDAY, Charge, charges
 _KINDS = {("S2", "work above"): WORK_DAYS, ("S6", "above"): SHIFTS, ("S7", "above"): WEEKENDS}
 
 
-def exceeded(week: Week, limits: Collection[KeptLimit], cells: Sequence[Cell]) -> List[Charge]:
+def exceeded(week: Week, limits: Collection[KeptLimit], cells: Sequence[Cell]) -> list[Charge]:
     """What the roster of this week has above the limits; totals count from the first one above."""
     most = {(limit.nurse, limit.kind): limit.most for limit in limits}
-    charges_above: List[Charge] = []
+    charges_above: list[Charge] = []
     for charge in charges(week, cells, early=True) if limits else ():
         key = charge.nurse or "", _KINDS.get((charge.rule, charge.what), "")
         if key in most:
@@ -114,7 +114,7 @@ def _with_shifts_left(week: Week, too_many: Sequence[Cell], cells: Sequence[Cell
 # ---- facts that plans are asked to keep
 
 
-def read_given(path: PathLike, scenario: Scenario, text: Optional[str] = None) -> Tuple[Claim, ...]:
+def read_given(path: PathLike, scenario: Scenario, text: str | None = None) -> tuple[Claim, ...]:
     """Reads the facts about the weeks of a period that plans are asked to keep. Raises FileFault if
     the search cannot keep one."""
     claims = read_facts(path, scenario, scenario.weeks, text)

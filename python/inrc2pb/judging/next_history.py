@@ -1,6 +1,6 @@
 """The history with which the next week begins, from a week's history and roster."""
 
-from typing import Callable, Dict, Iterable
+from typing import Callable, Iterable
 
 from ..week.faults import Misuse
 from ..week.records import Cell, History, NurseHistory, Scenario, week_name
@@ -22,7 +22,7 @@ def _length_on_sunday(has: Callable[[int], bool], before: int) -> int:
 
 
 def next_nurse_history(
-    past: NurseHistory, shifts: Dict[int, str], new_period: bool = False
+    past: NurseHistory, shifts: dict[int, str], new_period: bool = False
 ) -> NurseHistory:
     """A nurse's next history; `shifts` has the shift type of each day on which she works."""
     sunday = shifts.get(SUNDAY)
@@ -52,7 +52,7 @@ def next_history(
             f"{week_name(history.week)} is the last of {scenario.weeks}: begin a new period with"
             " --new-period"
         )
-    shifts: Dict[str, Dict[int, str]] = {nurse: {} for nurse in history.nurses}
+    shifts: dict[str, dict[int, str]] = {nurse: {} for nurse in history.nurses}
     for cell in cells:
         if cell.day in shifts[cell.nurse]:
             raise Misuse(f"{cell.row()}: {cell.nurse} has two assignments on this day, remove one")

@@ -1,7 +1,7 @@
 """The one judge of whether a nurse may have a shift: by rest, skills and absences."""
 
 import enum
-from typing import Collection, List, Optional
+from typing import Collection
 
 from ..week.records import Absence, Cell, Scenario
 
@@ -28,9 +28,9 @@ def obstacles(
     scenario: Scenario,
     away: Collection[Absence],
     cell: Cell,
-    before: Optional[str] = None,
-    after: Optional[str] = None,
-) -> List[Obstacle]:
+    before: str | None = None,
+    after: str | None = None,
+) -> list[Obstacle]:
     """Why the nurse may not have this shift, with these absences, and with her shift types on the
     days before and after it."""
     is_away = Absence(cell.nurse, cell.day, None) in away

@@ -1,7 +1,7 @@
 """Warnings of values that are allowed in the files of a week, but are probably mistakes."""
 
 import enum
-from typing import Dict, Iterable, Iterator, List, Optional, Tuple
+from typing import Iterable, Iterator
 
 from ..week.faults import obeyed, printable
 from ..week.records import (
@@ -102,7 +102,7 @@ def _too_many_assignments(contract: Contract, weeks: int) -> Iterator[str]:
         )
 
 
-def history_warnings(history: History, scenario: Optional[Scenario] = None) -> Iterator[str]:
+def history_warnings(history: History, scenario: Scenario | None = None) -> Iterator[str]:
     """Warnings of a history. With the scenario a nurse may have her contract's minimum of
     assignments as leave."""
     for past in history.nurses.values():
@@ -157,7 +157,7 @@ def week_warnings(scenario: Scenario, data: WeekData) -> Iterator[Warned]:
         skill: sum(skill in nurse.skills for nurse in scenario.nurses.values())
         for skill in scenario.skills
     }
-    days_of: Dict[Tuple[str, Warned], List[str]] = {}
+    days_of: dict[tuple[str, Warned], list[str]] = {}
     for place, required in data.requirements.items():
         warned = _odd_number(required, have[place.skill])
         if warned:
@@ -167,7 +167,7 @@ def week_warnings(scenario: Scenario, data: WeekData) -> Iterator[Warned]:
     yield from map(Warned, _unasked(scenario, data))
 
 
-def _odd_number(required: Requirement, have: int) -> Optional[Warned]:
+def _odd_number(required: Requirement, have: int) -> Warned | None:
     """A warning of a place for which this number of nurses has the skill."""
     if required.minimum > have:
         cure = f"lower {required.minimum} to {have}, or give more nurses the skill"

@@ -6,18 +6,7 @@ penalty and the costs as `decode` reports them.
 """
 
 import collections
-from typing import (
-    Counter,
-    Dict,
-    Iterable,
-    Iterator,
-    List,
-    NamedTuple,
-    Optional,
-    Sequence,
-    Set,
-    Tuple,
-)
+from typing import Counter, Iterable, Iterator, NamedTuple, Sequence
 
 from ..week.records import Cell, Contract, Limits, NurseHistory, Place, Request, Week
 from ..week.soft_rules import (
@@ -34,7 +23,7 @@ from ..week.soft_rules import (
 
 SATURDAY = 5
 SUNDAY = 6
-Shifts = Dict[Tuple[str, int], List[str]]
+Shifts = dict[tuple[str, int], list[str]]
 
 
 class Charge(NamedTuple):
@@ -49,10 +38,10 @@ class Charge(NamedTuple):
 
     rule: str
     what: str
-    nurse: Optional[str]
+    nurse: str | None
     weight: int
     subject: str = ""
-    days: Optional[Tuple[int, int]] = None
+    days: tuple[int, int] | None = None
     number: int = 0
     limit: int = 0
     before: int = 0
@@ -81,7 +70,7 @@ def numbers(roster: Iterable[Cell]) -> Counter[Place]:
 
 
 def _has_forbidden_succession(week: Week, shifts: Shifts, nurse: str) -> bool:
-    days: List[Sequence[Optional[str]]] = [
+    days: list[Sequence[str | None]] = [
         [week.history.nurses[nurse].last_shift],
         *(shifts[nurse, day] for day in range(7)),
     ]
@@ -106,12 +95,12 @@ def broken(week: Week, roster: Sequence[Cell], held: Iterable[Cell] = ()) -> Ite
         yield "H3"
     if any(cell.skill not in nurses[cell.nurse].skills for cell in roster):
         yield "H4"
-    rows: Set[Cell] = set(roster)
+    rows: set[Cell] = set(roster)
     if any(cell not in rows for cell in held):
         yield "H5"
 
 
-def first_broken(week: Week, roster: Sequence[Cell], held: Iterable[Cell] = ()) -> Optional[str]:
+def first_broken(week: Week, roster: Sequence[Cell], held: Iterable[Cell] = ()) -> str | None:
     """The first hard rule that the roster breaks, or None."""
     return next(broken(week, roster, held), None)
 
@@ -166,9 +155,9 @@ def charges(week: Week, roster: Sequence[Cell], early: bool = False) -> Iterator
         yield from nurse_charges(week, shifts, requests[nurse], nurse, early)
 
 
-def requests_by_nurse(week: Week) -> Dict[str, List[Request]]:
+def requests_by_nurse(week: Week) -> dict[str, list[Request]]:
     """The requests of each nurse."""
-    requests: Dict[str, List[Request]] = {nurse: [] for nurse in week.scenario.nurses}
+    requests: dict[str, list[Request]] = {nurse: [] for nurse in week.scenario.nurses}
     for request in week.data.requests:
         requests[request.nurse].append(request)
     return requests
@@ -213,7 +202,7 @@ def nurse_charges(
 
 
 def _request_charges(
-    nurse: str, shift_on: Sequence[List[str]], requests: Sequence[Request]
+    nurse: str, shift_on: Sequence[list[str]], requests: Sequence[Request]
 ) -> Iterator[Charge]:
     """The requests that are not granted; equal ones are one charge."""
     for request, count in collections.Counter(requests).items():
@@ -270,7 +259,7 @@ def _total_charges(
                 )
 
 
-def cost_by_rule(charged: Iterable[Charge]) -> Dict[str, int]:
+def cost_by_rule(charged: Iterable[Charge]) -> dict[str, int]:
     """What these charges cost by each soft rule."""
     cost = dict.fromkeys(SOFT_RULES, 0)
     for charge in charged:
@@ -278,14 +267,14 @@ def cost_by_rule(charged: Iterable[Charge]) -> Dict[str, int]:
     return cost
 
 
-def costs(week: Week, roster: Sequence[Cell], early: bool = False) -> Dict[str, int]:
+def costs(week: Week, roster: Sequence[Cell], early: bool = False) -> dict[str, int]:
     """The cost of each soft rule; the penalty is their sum."""
     return cost_by_rule(charges(week, roster, early))
 
 
 def nurse_costs(
     week: Week, roster: Sequence[Cell], early: bool = False
-) -> Dict[str, Dict[str, int]]:
+) -> dict[str, dict[str, int]]:
     """The same of each nurse; no nurse pays for S1."""
     shifts = shifts_by_day(roster)
     requests = requests_by_nurse(week)

@@ -4,7 +4,7 @@ one another.
 A choice is 0 for a day off, and one more than the index of its shift type otherwise.
 """
 
-from typing import Dict, FrozenSet, List, NamedTuple, Sequence, Tuple
+from typing import NamedTuple, Sequence
 
 from ..week.records import DAYS, Contract, Limits, NurseHistory, ShiftType, successions
 from ..week.soft_rules import DAYS_OFF_RUN, HALF_WEEKEND, SHIFT_RUN, WORK_RUN
@@ -40,16 +40,16 @@ class Beside(NamedTuple):
     the older one costs `call` points.
     """
 
-    training: FrozenSet[int] = frozenset()
-    free: FrozenSet[int] = frozenset()
-    nights: FrozenSet[str] = frozenset()
+    training: frozenset[int] = frozenset()
+    free: frozenset[int] = frozenset()
+    nights: frozenset[str] = frozenset()
     cost: int = 0
     fixed: int = 0
     older: bytes = b""
     call: int = 0
 
 
-Step = Tuple[int, RunState]
+Step = tuple[int, RunState]
 
 
 def shortened(run: int, limits: Limits, left: int) -> int:
@@ -90,7 +90,7 @@ class Runs:
         self._shift_run = shift_run
         self._above = above
         self._beside = beside
-        self._known: Dict[Tuple[int, RunState], List[Step]] = {}
+        self._known: dict[tuple[int, RunState], list[Step]] = {}
         self.shifts = [Limits(0, 0), *(kind.consecutive for kind in types)]
         self.numbers = {kind.name: number for number, kind in enumerate(types, 1)}
         self._nights = {self.numbers[name] for name in beside.nights}
@@ -118,7 +118,7 @@ class Runs:
             choice, shift_run, work_run, shortened(off, self.contract.days_off, left) if off else 0
         )
 
-    def steps(self, day: int, now: RunState) -> List[Step]:
+    def steps(self, day: int, now: RunState) -> list[Step]:
         """For each choice on a day what it costs, in points, and the state at its end; NEVER, if a
         hard rule forbids it."""
         steps = self._known.get((day, now))
@@ -128,14 +128,14 @@ class Runs:
             )
         return steps
 
-    def _free_steps(self, now: RunState) -> List[Step]:
+    def _free_steps(self, now: RunState) -> list[Step]:
         forbidden = self.forbidden[now.choice]
         return [
             (NEVER, now) if choice in forbidden else (0, RunState(choice, 0, 0, 0))
             for choice in range(len(self.shifts))
         ]
 
-    def _steps(self, day: int, now: RunState) -> List[Step]:
+    def _steps(self, day: int, now: RunState) -> list[Step]:
         work = self.contract.working_days
         off = self.contract.days_off
         left = self.days - day - 1

@@ -2,7 +2,7 @@
 and for who is back share them, and so does the end of a week."""
 
 from dataclasses import dataclass
-from typing import Dict, Iterable, List, Tuple
+from typing import Iterable
 
 from ..judging.leave import ILL, TRAINING
 from ..sheets.written_days import BACK, lost_shifts
@@ -22,7 +22,7 @@ class Away(Outcome):
     old: WardPlan
     new: WardPlan
     nurse: str
-    days: Tuple[int, ...]
+    days: tuple[int, ...]
     word: str
     # The reason that she had who is back.
     was: str = ""
@@ -34,14 +34,14 @@ class Away(Outcome):
             cell for cell in self.new.cells if NurseDay(cell.nurse, cell.day) not in self.new.away
         )
 
-    def lines(self, write: str = "") -> List[str]:
+    def lines(self, write: str = "") -> list[str]:
         """What an absence lifts and counts, and what it alone exceeds."""
         said = [*self.heads(is_look=True), *exceeded_lines(self.there)]
         return (
             [*said, not_written_text(write)] if self.status is Status.NOT_KEPT and write else said
         )
 
-    def question(self) -> List[str]:
+    def question(self) -> list[str]:
         """The same."""
         return self.lines()
 
@@ -50,12 +50,12 @@ class Away(Outcome):
         """Each absence does."""
         return True
 
-    def begin(self) -> List[str]:
+    def begin(self) -> list[str]:
         """That a nurse is away or back, before a search."""
         nurse = readable(self.nurse)
         if self.word != BACK:
             return [f"{nurse}: {self.word}, {self.old.days.span(self.days)}"]
-        stays: Dict[str, List[int]] = {}
+        stays: dict[str, list[int]] = {}
         for day in range(self.days[0], self.new.days.total):
             stays.setdefault(self.new.away.get(NurseDay(self.nurse, day), ALWAYS_OFF), []).append(
                 day
@@ -67,7 +67,7 @@ class Away(Outcome):
             for word, days in away.items()
         ]
 
-    def heads(self, is_look: bool = False) -> List[str]:
+    def heads(self, is_look: bool = False) -> list[str]:
         """The shifts that the spreadsheet holds and the absence lifts, and what counts of the
         nurse's contract now; in a look also what ends and what stays."""
         old = self.old
@@ -88,7 +88,7 @@ class Away(Outcome):
         return [*begin, *said, *part_lines(old, self.new, self.nurse)]
 
 
-def part_lines(old: WardPlan, new: WardPlan, nurse: str) -> List[str]:
+def part_lines(old: WardPlan, new: WardPlan, nurse: str) -> list[str]:
     """What counts of the nurse's contract now, if her shifts of the period are other ones."""
     before, now = (plan.scenario.contract_of(nurse) for plan in (old, new))
     if before.assignments == now.assignments:
@@ -106,7 +106,7 @@ def not_written_text(write: str) -> str:
     )
 
 
-def lost_by(old: WardPlan, nurse: str, days: Iterable[int]) -> Dict[int, int]:
+def lost_by(old: WardPlan, nurse: str, days: Iterable[int]) -> dict[int, int]:
     """The shifts that an illness of a nurse takes from a plan on the wall: her shift of each day,
     none if she is off, and what was known before if she is ill already. Of days on which she is
     away for another reason only those of training have one.

@@ -7,19 +7,7 @@ shift is no new shift. In a search new shifts are requests in a copy of a week's
 
 from dataclasses import replace
 from itertools import permutations
-from typing import (
-    Collection,
-    Dict,
-    FrozenSet,
-    Iterable,
-    Iterator,
-    List,
-    Mapping,
-    NamedTuple,
-    Optional,
-    Sequence,
-    Tuple,
-)
+from typing import Collection, Iterable, Iterator, Mapping, NamedTuple, Sequence
 
 from ..sheets.written_days import BACK, SHEET
 from ..week.records import Cell, NurseDay, Request, Scenario, WeekData
@@ -49,8 +37,8 @@ class ShiftChange(NamedTuple):
 
     nurse: str
     day: int
-    before: Optional[Cell]
-    now: Optional[Cell]
+    before: Cell | None
+    now: Cell | None
 
     @property
     def place(self) -> NurseDay:
@@ -58,7 +46,7 @@ class ShiftChange(NamedTuple):
         return NurseDay(self.nurse, self.day)
 
 
-def shift_changes(old: Iterable[Cell], new: Iterable[Cell]) -> List[ShiftChange]:
+def shift_changes(old: Iterable[Cell], new: Iterable[Cell]) -> list[ShiftChange]:
     """The nurses' days with another shift type or skill, in the order of days."""
     before, now = ({(cell.day, cell.nurse): cell for cell in cells} for cells in (old, new))
     changes = [
@@ -68,19 +56,19 @@ def shift_changes(old: Iterable[Cell], new: Iterable[Cell]) -> List[ShiftChange]
     return [change for change in changes if change.before != change.now]
 
 
-def called(changes: Iterable[ShiftChange], away: Mapping[NurseDay, str]) -> List[str]:
+def called(changes: Iterable[ShiftChange], away: Mapping[NurseDay, str]) -> list[str]:
     """The nurses to call: those with a change on a day on which they are not away."""
     return list(dict.fromkeys(change.nurse for change in changes if change.place not in away))
 
 
-def is_other_shift(before: Optional[Cell], now: Optional[Cell]) -> bool:
+def is_other_shift(before: Cell | None, now: Cell | None) -> bool:
     """Whether a nurse's day has another shift type, or is off in only one of two rosters. Another
     skill is no other shift."""
     return (before.shift if before else None) != (now.shift if now else None)
 
 
 def new_shift_points(
-    place: Tuple[str, int], agreed: Collection[Tuple[str, int]], beside: Collection[Tuple[str, int]]
+    place: tuple[str, int], agreed: Collection[tuple[str, int]], beside: Collection[tuple[str, int]]
 ) -> int:
     """What another shift of a nurse on a day costs, if it is one on which she has agreed, or a day
     off beside days away."""
@@ -94,9 +82,9 @@ def with_few_changes(
     data: WeekData,
     old: Collection[Cell],
     days: Collection[int],
-    agreed: Collection[Tuple[str, int]] = (),
+    agreed: Collection[tuple[str, int]] = (),
     new: Collection[str] = (),
-    beside: Collection[Tuple[str, int]] = (),
+    beside: Collection[tuple[str, int]] = (),
 ) -> WeekData:
     """The week's file with requests against all shifts on these days, and on agreed days of nurses,
     but those of the old roster. A new nurse may have any shift. The days off `beside` days away
@@ -121,17 +109,17 @@ def with_few_changes(
 
 
 def _requests(
-    scenario: Scenario, nurse: str, day: int, shift_on: Dict[Tuple[str, int], str]
+    scenario: Scenario, nurse: str, day: int, shift_on: dict[tuple[str, int], str]
 ) -> Iterator[Request]:
     """Who was off is asked to work nothing, who worked to work no other shift type."""
-    old: Optional[str] = shift_on.get((nurse, day))
+    old: str | None = shift_on.get((nurse, day))
     if old is None:
         yield Request(nurse, None, day)
     else:
         yield from (Request(nurse, shift, day) for shift in scenario.shift_types if shift != old)
 
 
-def days_off_beside_absences(plan: WardPlan) -> FrozenSet[NurseDay]:
+def days_off_beside_absences(plan: WardPlan) -> frozenset[NurseDay]:
     """The nurses' days off in the weeks that are not over, at most two days from a day on which
     they are away. Days on which a nurse is back earlier are none."""
     back = {
@@ -151,11 +139,11 @@ def days_off_beside_absences(plan: WardPlan) -> FrozenSet[NurseDay]:
 # ---- skills of shifts that stay
 
 
-def with_old_skills(scenario: Scenario, cells: Sequence[Cell], old: Sequence[Cell]) -> List[Cell]:
+def with_old_skills(scenario: Scenario, cells: Sequence[Cell], old: Sequence[Cell]) -> list[Cell]:
     """The same shifts, each place with as many nurses, and with the skills of the old roster where
     possible."""
     before = {(cell.nurse, cell.day, cell.shift): cell.skill for cell in old}
-    by_shift: Dict[Tuple[int, str], List[Cell]] = {}
+    by_shift: dict[tuple[int, str], list[Cell]] = {}
     for cell in cells:
         by_shift.setdefault((cell.day, cell.shift), []).append(cell)
     return [
@@ -164,8 +152,8 @@ def with_old_skills(scenario: Scenario, cells: Sequence[Cell], old: Sequence[Cel
 
 
 def _labelled(
-    scenario: Scenario, cells: List[Cell], before: Dict[Tuple[str, int, str], str]
-) -> List[Cell]:
+    scenario: Scenario, cells: list[Cell], before: dict[tuple[str, int, str], str]
+) -> list[Cell]:
     """The nurses of a shift with other skills; as they are if their number of each skill would
     differ."""
     kept = [cell._replace(skill=before[cell[:3]]) for cell in cells if cell[:3] in before]
@@ -180,7 +168,7 @@ def _labelled(
     return next((kept + new for new in _fitting(scenario, others, left)), cells)
 
 
-def _fitting(scenario: Scenario, cells: List[Cell], skills: List[str]) -> Iterator[List[Cell]]:
+def _fitting(scenario: Scenario, cells: list[Cell], skills: list[str]) -> Iterator[list[Cell]]:
     """These nurses with these skills, in each order in which they have them."""
     for order in permutations(skills):
         if all(skill in scenario.nurses[cell.nurse].skills for cell, skill in zip(cells, order)):

@@ -2,7 +2,7 @@
 them. The end of a week has them, and so have weeks that are over."""
 
 from dataclasses import replace
-from typing import Dict, FrozenSet, List, Mapping, NamedTuple, Set
+from typing import Mapping, NamedTuple
 
 from ..judging.leave import ILL
 from ..sheets.plan_sheets import AWAY
@@ -26,17 +26,17 @@ class Corrections(NamedTuple):
     old: WardPlan
     new: WardPlan
     away: Mapping[NurseDay, str]
-    weeks: FrozenSet[int]
+    weeks: frozenset[int]
 
     def with_open(self, open_week: int) -> WardPlan:
         """The plan with them, whose first weeks are over."""
         state = replace(self.new.state, open_week=open_week)
         return plan_of(self.new.ward, state.keeping(lambda place: place.day >= state.first))
 
-    def lines(self) -> List[str]:
+    def lines(self) -> list[str]:
         """What was worked otherwise than planned, and the rules that this breaks."""
         old, new = self.old, self.new
-        said: List[str] = []
+        said: list[str] = []
         for (nurse, day), word in self.away.items():
             absence = Away(old, new, nurse, (day,), word)
             said += [
@@ -48,7 +48,7 @@ class Corrections(NamedTuple):
         cure = ["if it was not worked so: undo, then over with other corrections"]
         return [*said, *by_hand, *(cure if by_hand else [])]
 
-    def _newly_broken(self, week: int) -> List[str]:
+    def _newly_broken(self, week: int) -> list[str]:
         known = broken(self.old, week)
         return [
             broken_text(self.new, fault) for fault in broken(self.new, week) if fault not in known
@@ -59,9 +59,9 @@ class _Worked(NamedTuple):
     """The shifts of nurses' days as they were worked; why nurses were away on days on which they
     did not work, or that they were back on days on which they did; and the days of corrections."""
 
-    cells: Dict[NurseDay, Cell]
-    away: Dict[NurseDay, str]
-    days: Set[int]
+    cells: dict[NurseDay, Cell]
+    away: dict[NurseDay, str]
+    days: set[int]
 
 
 def corrections_of(
@@ -108,7 +108,7 @@ def _correct(old: WardPlan, wording: Wording, worked: _Worked, place: NurseDay) 
             worked.away[place] = BACK
 
 
-def follow_lines(before: WardPlan, now: WardPlan) -> List[str]:
+def follow_lines(before: WardPlan, now: WardPlan) -> list[str]:
     """What follows in the weeks that are not over: the rules that the plan breaks now, and shifts
     that are too many."""
     if not (now.is_planned and now.weeks):

@@ -11,7 +11,7 @@ same plan as a quiet one.
 
 import itertools
 import random
-from typing import Callable, Dict, Iterable, Iterator, Mapping, NamedTuple, Optional, Set, Tuple
+from typing import Callable, Iterable, Iterator, Mapping, NamedTuple
 
 from ..judging.rules import SATURDAY
 from ..week.records import WEEK_DAYS, Cell, NurseDay
@@ -47,11 +47,11 @@ _Bits = int
 class _Exchange(NamedTuple):
     """Nurses in a circle, and the days on which each has the shifts of the next one."""
 
-    nurses: Tuple[str, ...]
+    nurses: tuple[str, ...]
     days: _Bits
 
     @property
-    def givers(self) -> Iterator[Tuple[str, str]]:
+    def givers(self) -> Iterator[tuple[str, str]]:
         """Each nurse with the one whose shifts she has."""
         return zip(self.nurses, (*self.nurses[1:], self.nurses[0]))
 
@@ -80,7 +80,7 @@ class _Exchanges:
         self._work = work
         self._random = random.Random(1)
         self._costs = RowCosts(plan, work)
-        self.rows: Dict[str, _Row] = dict(by_nurse(plan, plan.works))
+        self.rows: dict[str, _Row] = dict(by_nurse(plan, plan.works))
         self._before = shares_before(plan, plan.first)
         self._firm = {*plan.held, *plan.state.kept}
         self._days = range(max(first, plan.first), plan.days.total)
@@ -96,13 +96,13 @@ class _Exchanges:
             for nurse in group
         }
         self._saturdays = _bits(range(SATURDAY, plan.days.total, WEEK_DAYS))
-        self._works: Dict[str, _Bits] = {}
-        self._nights: Dict[str, _Bits] = {}
-        self._choices: Dict[str, bytes] = {}
-        self._known: Dict[Tuple[str, Tuple[Cell, ...]], Tuple[int, int, int]] = {}
-        self._is_even: Optional[bool] = None
+        self._works: dict[str, _Bits] = {}
+        self._nights: dict[str, _Bits] = {}
+        self._choices: dict[str, bytes] = {}
+        self._known: dict[tuple[str, tuple[Cell, ...]], tuple[int, int, int]] = {}
+        self._is_even: bool | None = None
         # The pairs of nurses whose exchanges were tried since their rows are as they are.
-        self._searched: Set[Tuple[str, str]] = set()
+        self._searched: set[tuple[str, str]] = set()
         self._take(self.rows)
 
     def _take(self, new: Mapping[str, _Row]) -> None:
@@ -210,7 +210,7 @@ class _Exchanges:
 
     # ---- what an exchange does
 
-    def _may_have(self, nurse: str, day: int, cell: Optional[Cell]) -> bool:
+    def _may_have(self, nurse: str, day: int, cell: Cell | None) -> bool:
         """Whether a nurse may have a shift of another one on a day, or may be off."""
         return NurseDay(nurse, day) not in self._firm and (
             cell is None or self._plan.may_have(cell._replace(nurse=nurse))
@@ -221,7 +221,7 @@ class _Exchanges:
         weekends = (works | works >> 1) & self._saturdays
         return Share(before.nights + nights.bit_count(), before.weekends + weekends.bit_count())
 
-    def _squares(self, exchange: _Exchange) -> Optional[Tuple[int, int]]:
+    def _squares(self, exchange: _Exchange) -> tuple[int, int] | None:
         """By how much the sums of the squares of nights and of weekends grow, of the nurses with
         the contract of the first one; None if another one has more of either then."""
         days = exchange.days
@@ -255,7 +255,7 @@ class _Exchanges:
         squares = self._squares(exchange)
         return squares is not None and max(squares) <= 0 and min(squares) < 0
 
-    def _exchanged(self, exchange: _Exchange) -> Tuple[int, Dict[str, _Row]]:
+    def _exchanged(self, exchange: _Exchange) -> tuple[int, dict[str, _Row]]:
         """What an exchange costs, and the rows after it."""
         self._work.takes(_MADE)
         mixed = {
@@ -298,7 +298,7 @@ class _Exchanges:
         )
         return all(number <= older for number, older in zip(now, before))
 
-    def _broken(self, nurse: str, row: _Row) -> Tuple[int, int, int]:
+    def _broken(self, nurse: str, row: _Row) -> tuple[int, int, int]:
         """How many faults a row has, and what it has above limits and beside days away."""
         key = nurse, tuple(row[day] for day in sorted(row))
         if key not in self._known:
@@ -322,6 +322,6 @@ def _span(begin: int, end: int) -> _Bits:
     return (1 << end) - (1 << begin)
 
 
-def _kind(cell: Optional[Cell]) -> Optional[Tuple[str, str]]:
+def _kind(cell: Cell | None) -> tuple[str, str] | None:
     """The shift type and the skill of a shift."""
     return cell and (cell.shift, cell.skill)

@@ -6,7 +6,7 @@ of one week, which have the days of it.
 """
 
 from dataclasses import replace
-from typing import Dict, Iterable, Iterator, List, Mapping, NamedTuple, Optional, Sequence, Tuple
+from typing import Iterable, Iterator, Mapping, NamedTuple, Sequence
 
 from ..judging.absences import absences_of, wishes_of, working_while_away
 from ..judging.breaches import breaches
@@ -27,8 +27,8 @@ class Unkept(NamedTuple):
     hold."""
 
     week: int
-    working: Tuple[Cell, ...] = ()
-    above: Tuple[Charge, ...] = ()
+    working: tuple[Cell, ...] = ()
+    above: tuple[Charge, ...] = ()
 
 
 class Broken(NamedTuple):
@@ -36,7 +36,7 @@ class Broken(NamedTuple):
 
     week: int
     rule: str = ""
-    above: Tuple[Charge, ...] = ()
+    above: tuple[Charge, ...] = ()
 
 
 class TooMany(NamedTuple):
@@ -48,7 +48,7 @@ class TooMany(NamedTuple):
     shifts: int
     most: int
     kept: int
-    last: Optional[int]
+    last: int | None
 
 
 class Beside(NamedTuple):
@@ -57,7 +57,7 @@ class Beside(NamedTuple):
     word."""
 
     nurse: str
-    days: Tuple[int, int]
+    days: tuple[int, int]
     number: int = 0
     most: int = 0
     shift: str = ""
@@ -71,13 +71,13 @@ class Due(NamedTuple):
     week: int
     charge: Charge
     points: int
-    words: Tuple[str, ...]
+    words: tuple[str, ...]
 
 
-def promised_days(plan: WardPlan) -> List[NurseDay]:
+def promised_days(plan: WardPlan) -> list[NurseDay]:
     """The nurses' days of the weeks that are not over that are promised, and so planned: those that
     were set, and the days off and the shifts that the spreadsheet promises."""
-    promised: Dict[NurseDay, Optional[Cell]] = {**plan.held}
+    promised: dict[NurseDay, Cell | None] = {**plan.held}
     promised.update((place, None) for place, word in plan.away.items() if word == PROMISED)
     promised.update((place, promise.cell) for place, promise in plan.state.promised.items())
     return [place for place, cell in promised.items() if plan.works.get(place) == cell]
@@ -88,14 +88,14 @@ class Agreement(NamedTuple):
     of a swap, or one that was set."""
 
     place: NurseDay
-    cell: Optional[Cell]
+    cell: Cell | None
     is_set: bool = False
 
 
-def unkept(plan: WardPlan) -> List[Unkept]:
+def unkept(plan: WardPlan) -> list[Unkept]:
     """What the weeks that are not over do not keep: who works while she is away, and who has more
     than a limit that holds."""
-    missed: List[Unkept] = []
+    missed: list[Unkept] = []
     for number in plan.weeks:
         week = plan.week(number)
         cells = plan.state.roster(number)
@@ -114,7 +114,7 @@ def while_away(plan: WardPlan) -> int:
     return sum(len(missed.working) for missed in unkept(plan))
 
 
-def broken(plan: WardPlan, number: int) -> List[Broken]:
+def broken(plan: WardPlan, number: int) -> list[Broken]:
     """The hard rules and limits that hold that a week of the plan breaks."""
     week = plan.week(number)
     cells = plan.state.roster(number)
@@ -123,7 +123,7 @@ def broken(plan: WardPlan, number: int) -> List[Broken]:
     return [*rules, Broken(number, above=tuple(above))] if above else rules
 
 
-def exceeded_in_weeks(plan: WardPlan) -> Iterator[Tuple[int, Charge]]:
+def exceeded_in_weeks(plan: WardPlan) -> Iterator[tuple[int, Charge]]:
     """The limits that hold, but for those of the period, that the weeks of a plan exceed, if there
     is a plan."""
     for number in plan.weeks if plan.is_planned else ():
@@ -132,11 +132,11 @@ def exceeded_in_weeks(plan: WardPlan) -> Iterator[Tuple[int, Charge]]:
         yield from ((number, charge) for charge in charged if charge.rule != _TOTAL)
 
 
-def too_many_shifts(plan: WardPlan) -> List[TooMany]:
+def too_many_shifts(plan: WardPlan) -> list[TooMany]:
     """The nurses whose shifts exceed limits that hold, by the spreadsheet, if there is a plan."""
     if not plan.weeks or not plan.is_planned:
         return []
-    too_many: List[TooMany] = []
+    too_many: list[TooMany] = []
     for (fact, _), (kept, _) in zip(plan.ward.claims, plan.limits):
         if (
             isinstance(fact, Charged)
@@ -160,7 +160,7 @@ def too_many_shifts(plan: WardPlan) -> List[TooMany]:
     return too_many
 
 
-def _last_to_take(plan: WardPlan, nurse: str, number: int) -> Optional[int]:
+def _last_to_take(plan: WardPlan, nurse: str, number: int) -> int | None:
     """The last day from which a plan can take so many shifts of a nurse away: they are not over,
     not held, and not on days away."""
     free = sorted(
@@ -171,26 +171,26 @@ def _last_to_take(plan: WardPlan, nurse: str, number: int) -> Optional[int]:
     return free[-number] if len(free) >= number else None
 
 
-def too_many_by_days_away(plan: WardPlan) -> List[TooMany]:
+def too_many_by_days_away(plan: WardPlan) -> list[TooMany]:
     """Those whose shifts are too many only since days away count as shifts."""
     return [many for many in too_many_shifts(plan) if many.shifts <= many.kept]
 
 
 # A maximum that holds and is exceeded: its nurse, its rule, and its week, or for days in a row with
 # training their first day.
-_Exceeded = Tuple[str, str, int]
+_Exceeded = tuple[str, str, int]
 
 
-def newly_exceeded(old: Optional[WardPlan], new: WardPlan) -> bool:
+def newly_exceeded(old: WardPlan | None, new: WardPlan) -> bool:
     """Whether a plan exceeds a maximum that holds by more than an older plan does."""
     before = _exceeded(old) if old else {}
     return any(above > before.get(maximum, 0) for maximum, above in _exceeded(new).items())
 
 
-def _exceeded(plan: WardPlan) -> Dict[_Exceeded, int]:
+def _exceeded(plan: WardPlan) -> dict[_Exceeded, int]:
     """By how much each maximum that holds is exceeded, with shifts for days away and with days in a
     row with training."""
-    exceeded_by: Dict[_Exceeded, int] = {
+    exceeded_by: dict[_Exceeded, int] = {
         (charge.nurse or "", charge.rule, week): charge.times
         for week, charge in exceeded_in_weeks(plan)
     }
@@ -213,12 +213,12 @@ def _exceeded(plan: WardPlan) -> Dict[_Exceeded, int]:
     return exceeded_by
 
 
-def beside_days_away(plan: WardPlan) -> List[Beside]:
+def beside_days_away(plan: WardPlan) -> list[Beside]:
     """What is wrong beside days away in the weeks that are not over."""
     return beside_of(plan, plan.days_away, plan.shifts) if plan.weeks else []
 
 
-def beside_of(plan: WardPlan, away: DaysAway, shifts: Mapping[NurseDay, str]) -> List[Beside]:
+def beside_of(plan: WardPlan, away: DaysAway, shifts: Mapping[NurseDay, str]) -> list[Beside]:
     """The same with these days away and shift types, both by the days from the first one that is
     not over."""
     first = plan.first
@@ -247,7 +247,7 @@ def beside_of(plan: WardPlan, away: DaysAway, shifts: Mapping[NurseDay, str]) ->
     return odd
 
 
-def sums(plan: WardPlan) -> Dict[str, Sums]:
+def sums(plan: WardPlan) -> dict[str, Sums]:
     """What each nurse has in the whole period: in weeks that are over, and in those that are
     planned."""
     wishes = [
@@ -260,7 +260,7 @@ def sums(plan: WardPlan) -> Dict[str, Sums]:
     )
 
 
-def refused_wishes(plan: WardPlan) -> List[Request]:
+def refused_wishes(plan: WardPlan) -> list[Request]:
     """The wishes of the weeks that are not over that the plan does not grant, with days of the
     plan."""
     works = {(cell.nurse, cell.day, shift) for cell in plan.cells for shift in (cell.shift, None)}
@@ -272,18 +272,18 @@ def refused_wishes(plan: WardPlan) -> List[Request]:
     return [wish for wish in dict.fromkeys(asked) if (wish.nurse, wish.day, wish.shift) in works]
 
 
-def lost_wishes(old: Optional[WardPlan], new: WardPlan) -> List[Request]:
+def lost_wishes(old: WardPlan | None, new: WardPlan) -> list[Request]:
     """The wishes that are not granted, or only those that an older plan grants and this one does
     not."""
     before = refused_wishes(old) if old else []
     return [wish for wish in refused_wishes(new) if wish not in before]
 
 
-def due_to_days_away(plan: WardPlan) -> List[Due]:
+def due_to_days_away(plan: WardPlan) -> list[Due]:
     """The charges in which days away have a part: `inrc2pb` knows no days away, so they are days
     off, a day of a weekend or the end of days of work for it, and their shifts and weekends are in
     the totals of the period."""
-    due: List[Due] = []
+    due: list[Due] = []
     for week in plan.view().weeks:
         for charge in week.charges or ():
             if charge.nurse is not None:
@@ -293,7 +293,7 @@ def due_to_days_away(plan: WardPlan) -> List[Due]:
     return due
 
 
-def _due(plan: WardPlan, number: int, charge: Charge, nurse: str) -> Tuple[int, Tuple[str, ...]]:
+def _due(plan: WardPlan, number: int, charge: Charge, nurse: str) -> tuple[int, tuple[str, ...]]:
     """The points of a nurse's charge that are due to days away, and the words for these."""
     counted = plan.ward.counted
     if charge.what == "above" and charge.rule in ("S6", "S7"):
@@ -317,7 +317,7 @@ def _due(plan: WardPlan, number: int, charge: Charge, nurse: str) -> Tuple[int, 
     return charge.cost, _away_words(plan, nurse, days.get(charge.what, ()))
 
 
-def _away_words(plan: WardPlan, nurse: str, days: Iterable[int]) -> Tuple[str, ...]:
+def _away_words(plan: WardPlan, nurse: str, days: Iterable[int]) -> tuple[str, ...]:
     """Why the nurse is away on some of these days."""
     return tuple(
         dict.fromkeys(
@@ -328,7 +328,7 @@ def _away_words(plan: WardPlan, nurse: str, days: Iterable[int]) -> Tuple[str, .
     )
 
 
-def broken_agreements(old: WardPlan, new: WardPlan) -> List[Agreement]:
+def broken_agreements(old: WardPlan, new: WardPlan) -> list[Agreement]:
     """What a new plan does not keep of the days of swaps, and of those that were set. A promise to
     a nurse who is away is told once: the older plan had kept it."""
     kept = {*new.state.agreed, *new.state.promised}

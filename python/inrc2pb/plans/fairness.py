@@ -3,7 +3,7 @@
 Only nurses of the same contract are compared, and only those who may work at night or on weekends.
 """
 
-from typing import Dict, Iterator, List, Mapping, NamedTuple, Sequence, Tuple
+from typing import Iterator, Mapping, NamedTuple, Sequence
 
 from ..judging.leave import part_contract
 from ..judging.rules import SATURDAY
@@ -32,17 +32,17 @@ class Evenness(NamedTuple):
     """How evenly nights and weekends are shared, for each contract that several nurses have who may
     work them."""
 
-    nights: Tuple[Spread, ...]
-    weekends: Tuple[Spread, ...]
+    nights: tuple[Spread, ...]
+    weekends: tuple[Spread, ...]
 
 
-def shares(plan: WardPlan) -> Dict[str, Share]:
+def shares(plan: WardPlan) -> dict[str, Share]:
     """The nights and weekends of each nurse in the period, in weeks that are over and in those that
     are planned."""
     return shares_before(plan, plan.days.total)
 
 
-def shares_before(plan: WardPlan, end: int) -> Dict[str, Share]:
+def shares_before(plan: WardPlan, end: int) -> dict[str, Share]:
     """Those before the day `end`."""
     works = {NurseDay(cell.nurse, cell.day): cell for cell in plan.state.cells if cell.day < end}
     return {nurse: _share(plan, row) for nurse, row in by_nurse(plan, works).items()}
@@ -71,7 +71,7 @@ def evenness(plan: WardPlan) -> Evenness:
     return Evenness(_spreads(nights), _spreads(weekends))
 
 
-def _spreads(numbers: Mapping[str, Sequence[int]]) -> Tuple[Spread, ...]:
+def _spreads(numbers: Mapping[str, Sequence[int]]) -> tuple[Spread, ...]:
     """The fewest and the most of each contract that several nurses have, unless all have none."""
     return tuple(
         Spread(name, min(some), max(some))
@@ -80,9 +80,9 @@ def _spreads(numbers: Mapping[str, Sequence[int]]) -> Tuple[Spread, ...]:
     )
 
 
-def contracts_of(plan: WardPlan) -> Dict[str, List[str]]:
+def contracts_of(plan: WardPlan) -> dict[str, list[str]]:
     """The nurses of each contract, also those for whom a part of it counts."""
-    owners: Dict[str, List[str]] = {}
+    owners: dict[str, list[str]] = {}
     for name, nurse in plan.scenario.nurses.items():
         part = part_contract(nurse.contract, plan.scenario.contracts)
         owners.setdefault(part.whole if part else nurse.contract, []).append(name)

@@ -3,7 +3,7 @@
 import threading
 import time
 from pathlib import Path
-from typing import Callable, Generic, Hashable, Iterable, Optional, Tuple, TypeVar
+from typing import Callable, Generic, Hashable, Iterable, TypeVar
 
 _Value = TypeVar("_Value")
 # A file that was changed within so many nanoseconds may be changed again without another time:
@@ -16,8 +16,8 @@ class Kept(Generic[_Value]):
 
     def __init__(self) -> None:
         self._lock = threading.Lock()
-        self._key: Optional[Hashable] = None
-        self._value: Optional[_Value] = None
+        self._key: Hashable | None = None
+        self._value: _Value | None = None
 
     def of(self, files: Iterable[Path], others: Hashable, make: Callable[[], _Value]) -> _Value:
         """The value of these files and other things, which is made if it is not the kept one. What
@@ -36,7 +36,7 @@ class Kept(Generic[_Value]):
             return made
 
 
-def looks_of(files: Iterable[Path]) -> Tuple[Tuple[str, int, int, int], ...]:
+def looks_of(files: Iterable[Path]) -> tuple[tuple[str, int, int, int], ...]:
     """What tells whether files were changed: their names, times, sizes and numbers on the disk."""
     looks = []
     for path in files:

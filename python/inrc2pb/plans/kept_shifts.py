@@ -2,7 +2,7 @@
 
 from dataclasses import replace
 from pathlib import Path
-from typing import Dict, Iterable, Sequence, Set
+from typing import Iterable, Sequence
 
 from ..judging.absences import wishes_of
 from ..shown.totals import Sums, sums_of
@@ -15,7 +15,7 @@ from .plan_files import known_record, roster_name
 from .ward import WardPlan
 
 
-def sums_of_period(period: Period, plan: WardPlan) -> Dict[str, Sums]:
+def sums_of_period(period: Period, plan: WardPlan) -> dict[str, Sums]:
     """What each nurse had in a period; the times of shift types, and which are nights, are those of
     another plan."""
     try:
@@ -35,10 +35,10 @@ def sums_of_period(period: Period, plan: WardPlan) -> Dict[str, Sums]:
     return sums_of(ward.nurses, worked, wishes, plan.days_away.nights, plan.ward.times)
 
 
-def published_days(folders: Iterable[Path], days: PlanDays) -> Dict[str, Set[int]]:
+def published_days(folders: Iterable[Path], days: PlanDays) -> dict[str, set[int]]:
     """The days of each nurse's shifts in plans of these days that hung on the wall, but for damaged
     files."""
-    days_of: Dict[str, Set[int]] = {}
+    days_of: dict[str, set[int]] = {}
     records = ((folder, known_record(folder)) for folder in folders)
     published = [
         folder

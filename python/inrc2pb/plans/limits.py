@@ -1,7 +1,7 @@
 """What plans of a ward keep: the limits, as functions of the ward, of what verbs have made, and of
 a first day."""
 
-from typing import List, Mapping, Optional, Sequence, Tuple
+from typing import Mapping, Sequence
 
 from ..judging.leave import credited
 from ..sheets.ward import Ward
@@ -10,7 +10,7 @@ from ..week.records import NurseDay
 from .state import State
 
 
-def limits_of(ward: Ward, state: State, first: Optional[int] = None) -> Tuple[Claim, ...]:
+def limits_of(ward: Ward, state: State, first: int | None = None) -> tuple[Claim, ...]:
     """The absences and limits that a plan of this state is judged by. A maximum of a nurse's shifts
     allows the shifts that she has before the day `first`, or all of them, as far as they are too
     many only since days away count as shifts: no limit takes shifts of other days from a nurse who
@@ -26,14 +26,14 @@ def limits_of(ward: Ward, state: State, first: Optional[int] = None) -> Tuple[Cl
 
 def limits_for_leavers(
     ward: Ward, state: State, limits: Sequence[Claim], first: int
-) -> Tuple[Claim, ...]:
+) -> tuple[Claim, ...]:
     """These limits for a search from the day `first` on: a nurse who leaves the ward keeps her
     shifts before it, also if the part of her contract that counts has fewer."""
     planned = _planned(ward, state, first)
     return _with_more(limits, ward, state, planned, dict.fromkeys(ward.leaving, len(planned)))
 
 
-def _planned(ward: Ward, state: State, end: int) -> List[str]:
+def _planned(ward: Ward, state: State, end: int) -> list[str]:
     """The nurse of each shift before the day `end`, but for shifts on days on which she is away."""
     return [
         cell.nurse
@@ -48,7 +48,7 @@ def _with_more(
     state: State,
     planned: Sequence[str],
     more: Mapping[str, int],
-) -> Tuple[Claim, ...]:
+) -> tuple[Claim, ...]:
     """The limits, with maxima that allow nurses these planned shifts, but by no more than `more`
     says for each."""
     before = credited(state.start, ward.counted).nurses

@@ -3,18 +3,7 @@ nothing."""
 
 import collections
 import time
-from typing import (
-    Callable,
-    Counter,
-    Dict,
-    Iterator,
-    List,
-    Mapping,
-    NamedTuple,
-    Optional,
-    Sequence,
-    Tuple,
-)
+from typing import Callable, Counter, Iterator, Mapping, NamedTuple, Sequence
 
 from ..judging.obstacles import Obstacle
 from ..week.records import Cell, NurseDay, Place
@@ -52,7 +41,7 @@ class _Judge:
         self._before = by_nurse(plan, old.works)
         self._beside = days_off_beside_absences(old)
         self._agreed = frozenset(old.state.kept)
-        self._known: Dict[Tuple[str, Tuple[Cell, ...]], _Value] = {}
+        self._known: dict[tuple[str, tuple[Cell, ...]], _Value] = {}
 
     def value(self, works: Works) -> _Value:
         """The value of assignments."""
@@ -162,7 +151,7 @@ def _steps(old: Works, works: Works, nurses: Sequence[str]) -> Iterator[Works]:
                 yield given
 
 
-def _taken_back(works: Works, group: Sequence[ShiftChange]) -> Dict[NurseDay, Cell]:
+def _taken_back(works: Works, group: Sequence[ShiftChange]) -> dict[NurseDay, Cell]:
     """The assignments without these changes."""
     taken = dict(works)
     for change in group:
@@ -174,7 +163,7 @@ def _taken_back(works: Works, group: Sequence[ShiftChange]) -> Dict[NurseDay, Ce
 
 def _given_to(
     old: Works, works: Works, of_nurse: Sequence[ShiftChange], other: str
-) -> Optional[Works]:
+) -> Works | None:
     """The assignments with a nurse's new shifts given to another one; None if there are none, or
     she worked on one of these days."""
     given = _taken_back(works, of_nurse)
@@ -191,14 +180,14 @@ def _given_to(
     return given
 
 
-def _of_each_nurse(changes: Sequence[ShiftChange]) -> Dict[str, List[ShiftChange]]:
-    by_nurse: Dict[str, List[ShiftChange]] = {}
+def _of_each_nurse(changes: Sequence[ShiftChange]) -> dict[str, list[ShiftChange]]:
+    by_nurse: dict[str, list[ShiftChange]] = {}
     for change in changes:
         by_nurse.setdefault(change.nurse, []).append(change)
     return by_nurse
 
 
-def _groups(changes: Sequence[ShiftChange]) -> Iterator[List[ShiftChange]]:
+def _groups(changes: Sequence[ShiftChange]) -> Iterator[list[ShiftChange]]:
     """All changes of a nurse, her days in a row, those of a day, two of a day, and each alone."""
     by_nurse = _of_each_nurse(changes)
     by_day = collections.defaultdict(list)
@@ -215,9 +204,9 @@ def _groups(changes: Sequence[ShiftChange]) -> Iterator[List[ShiftChange]]:
     yield from ([change] for change in changes)
 
 
-def _runs(of_nurse: Sequence[ShiftChange]) -> Iterator[List[ShiftChange]]:
+def _runs(of_nurse: Sequence[ShiftChange]) -> Iterator[list[ShiftChange]]:
     """The changes of a nurse on days that follow one another."""
-    run: List[ShiftChange] = []
+    run: list[ShiftChange] = []
     for change in of_nurse:
         if run and change.day != run[-1].day + 1:
             yield run

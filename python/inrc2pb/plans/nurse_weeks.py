@@ -2,7 +2,7 @@
 them."""
 
 from dataclasses import replace
-from typing import Dict, Iterator, List, Mapping, NamedTuple, Optional, Tuple
+from typing import Iterator, Mapping, NamedTuple
 
 from ..judging import days_away
 from ..judging.days_away import DaysAway
@@ -25,8 +25,8 @@ class Above(NamedTuple):
     week."""
 
     week: int
-    charges: Tuple[Charge, ...]
-    cells: Tuple[Cell, ...]
+    charges: tuple[Charge, ...]
+    cells: tuple[Cell, ...]
 
 
 class Fault(NamedTuple):
@@ -39,10 +39,10 @@ class Fault(NamedTuple):
     day: int = 0
     what: str = ""
     before: str = ""
-    above: Tuple[Above, ...] = ()
-    beside: Optional[Beside] = None
+    above: tuple[Above, ...] = ()
+    beside: Beside | None = None
     number: int = 0
-    promise: Optional[SetDay] = None
+    promise: SetDay | None = None
 
 
 class NurseWeeks:
@@ -52,13 +52,13 @@ class NurseWeeks:
     def __init__(self, plan: WardPlan) -> None:
         self._plan = plan
         self._held = by_nurse(plan, plan.held)
-        self._data: Dict[Tuple[str, int], WeekData] = {
+        self._data: dict[tuple[str, int], WeekData] = {
             (nurse, number): _of_nurse(plan.data[number], nurse)
             for nurse in plan.scenario.nurses
             for number in plan.weeks
         }
 
-    def _weeks(self, nurse: str, cells: NurseCells) -> Iterator[Tuple[Week, Tuple[Cell, ...]]]:
+    def _weeks(self, nurse: str, cells: NurseCells) -> Iterator[tuple[Week, tuple[Cell, ...]]]:
         """Each week, with her shifts."""
         plan = self._plan
         scenario = replace(plan.scenario, nurses={nurse: plan.scenario.nurses[nurse]})
@@ -76,7 +76,7 @@ class NurseWeeks:
             sum(costs(week, of_week).values()) for week, of_week in self._weeks(nurse, cells)
         )
 
-    def faults(self, nurse: str, cells: NurseCells) -> List[Fault]:
+    def faults(self, nurse: str, cells: NurseCells) -> list[Fault]:
         """The hard rules, absences and held shifts that these shifts break, each by itself, in the
         order of days."""
         last = self._plan.past.nurses[nurse].last_shift
@@ -93,14 +93,14 @@ class NurseWeeks:
             faults += self._cell_faults(cell, shift_on.get(cell.day - 1))
         return sorted(faults, key=lambda fault: fault.day)
 
-    def _cell_faults(self, cell: Cell, before: Optional[str]) -> Iterator[Fault]:
+    def _cell_faults(self, cell: Cell, before: str | None) -> Iterator[Fault]:
         """Why the nurse cannot have this shift after that of the day before."""
         place = NurseDay(cell.nurse, cell.day)
         words = {Obstacle.AWAY: self._plan.away.get(place, ""), Obstacle.SKILL: cell.skill}
         for kind in obstacles(self._plan.scenario, self._plan.absences, cell, before):
             yield Fault(kind, *place, words.get(kind, cell.shift), before or "")
 
-    def above(self, nurse: str, cells: NurseCells) -> List[Above]:
+    def above(self, nurse: str, cells: NurseCells) -> list[Above]:
         """What these shifts of the nurse have above limits that hold."""
         weeks = (
             (week, exceeded(week, week.data.limits, of_week), of_week)
@@ -116,7 +116,7 @@ class NurseWeeks:
         """How much that is in all."""
         return sum(excess(week.charges) for week in self.above(nurse, cells))
 
-    def beside(self, nurse: str, cells: NurseCells) -> List[Beside]:
+    def beside(self, nurse: str, cells: NurseCells) -> list[Beside]:
         """What is wrong beside the nurse's days of training and leave with these shifts."""
         return beside_of(self._plan, *self._around(nurse, cells))
 
@@ -125,7 +125,7 @@ class NurseWeeks:
         training or leave."""
         return days_away.excess(self._plan.scenario, self._plan.past, *self._around(nurse, cells))
 
-    def _around(self, nurse: str, cells: NurseCells) -> Tuple[DaysAway, Dict[NurseDay, str]]:
+    def _around(self, nurse: str, cells: NurseCells) -> tuple[DaysAway, dict[NurseDay, str]]:
         """The nurse's days away, and her shift types on the days from the first one that is not
         over."""
         return self._plan.days_away.of(nurse), {
@@ -144,9 +144,9 @@ def _of_nurse(data: WeekData, nurse: str) -> WeekData:
     )
 
 
-def by_nurse(plan: WardPlan, works: Mapping[NurseDay, Cell]) -> Dict[str, Dict[int, Cell]]:
+def by_nurse(plan: WardPlan, works: Mapping[NurseDay, Cell]) -> dict[str, dict[int, Cell]]:
     """The shifts of each nurse, by day."""
-    rows: Dict[str, Dict[int, Cell]] = {nurse: {} for nurse in plan.scenario.nurses}
+    rows: dict[str, dict[int, Cell]] = {nurse: {} for nurse in plan.scenario.nurses}
     for (nurse, day), cell in works.items():
         rows.setdefault(nurse, {})[day] = cell
     return rows

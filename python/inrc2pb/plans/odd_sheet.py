@@ -1,6 +1,6 @@
 """What is odd in the spreadsheet and in the folder, as `check` and `plan` say it."""
 
-from typing import Iterator, List, Sequence
+from typing import Iterator, Sequence
 
 from ..sheets.week_rows import WeekRow
 from ..week.words import quoted, readable
@@ -14,7 +14,7 @@ def warning_lines(
     other_pages: Sequence[str] = (),
     anew: Sequence[WeekRow] = (),
     strangers: Strangers = Strangers(),
-) -> List[str]:
+) -> list[str]:
     """What is odd in the spreadsheet and in the folder: pages that show another plan, rows of needs
     that are as they were last period, and nurses who may have another name now."""
     told = [

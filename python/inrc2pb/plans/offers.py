@@ -2,7 +2,6 @@
 that swap and set shifts, and the page of a nurse's day, say so."""
 
 from dataclasses import dataclass
-from typing import List, Tuple
 
 from ..judging.limits import limits_in_words
 from ..judging.obstacles import Obstacle
@@ -32,9 +31,9 @@ class Offers(Outcome):
     swaps: Swaps
     nurse: str
     day: int
-    offers: Tuple[Offer, ...]
+    offers: tuple[Offer, ...]
 
-    def lines(self, write: str = "") -> List[str]:
+    def lines(self, write: str = "") -> list[str]:
         """Who could take a shift, the cheapest first, or why nobody can."""
         cell = self.swaps.works(self.nurse, self.day)
         day = self.swaps.plan.days.text(self.day)
@@ -106,7 +105,7 @@ def reason_text(promise: SetDay) -> str:
     return f" ({promise.reason})" if promise.reason else ""
 
 
-def refused_lines(plan: WardPlan, faults: List[Fault]) -> List[str]:
+def refused_lines(plan: WardPlan, faults: list[Fault]) -> list[str]:
     """Why nothing is written."""
     return [*(f"not possible: {fault_text(plan, fault)}" for fault in faults), "nothing is written"]
 
@@ -141,7 +140,7 @@ def nobody_text(none: Offers) -> str:
     return f"{fault}: look at a swap with one nurse, which says what it breaks"
 
 
-def changed_lines(old: WardPlan, new: WardPlan) -> List[str]:
+def changed_lines(old: WardPlan, new: WardPlan) -> list[str]:
     """What differs in a plan that was made without a search: shifts, nurses to call, wishes, what
     is odd beside days away, and charges."""
     changes = shift_changes(old.cells, new.cells)
@@ -156,7 +155,7 @@ def changed_lines(old: WardPlan, new: WardPlan) -> List[str]:
     ]
 
 
-def price_lines(old: WardPlan, new: WardPlan) -> List[str]:
+def price_lines(old: WardPlan, new: WardPlan) -> list[str]:
     """The charges that are saved or added, and their sum; nothing if a plan has no cost, since it
     breaks a hard rule."""
     before = old.view().penalty
@@ -169,7 +168,7 @@ def price_lines(old: WardPlan, new: WardPlan) -> List[str]:
     ]
 
 
-def _charged(plan: WardPlan) -> List[Charged]:
+def _charged(plan: WardPlan) -> list[Charged]:
     """The cost of each charge, and the charge in words."""
     weeks = ((week.charges or (), plan.day_names(week.number)) for week in plan.view().weeks)
     return [

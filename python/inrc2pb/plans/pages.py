@@ -4,18 +4,7 @@ import datetime
 import re
 from dataclasses import replace
 from pathlib import Path
-from typing import (
-    Collection,
-    Dict,
-    Iterable,
-    List,
-    Mapping,
-    NamedTuple,
-    Optional,
-    Sequence,
-    Set,
-    Tuple,
-)
+from typing import Collection, Iterable, Mapping, NamedTuple, Sequence
 
 from ..shown.calendars import file_names, issue_now, write_calendars
 from ..shown.page import page_text
@@ -45,13 +34,13 @@ _WORKED = re.compile(r"worked(?:-([0-9]+(?:-[0-9]+-[0-9]+)?))?\.html")
 class Pages(NamedTuple):
     """What was done to the pages of a folder."""
 
-    written: Tuple[Path, ...] = ()
+    written: tuple[Path, ...] = ()
     # Those that were taken away, since they showed another plan.
-    gone: Tuple[Path, ...] = ()
+    gone: tuple[Path, ...] = ()
     # The fault that ended this, if there was one.
-    fault: Optional[OSError] = None
+    fault: OSError | None = None
 
-    def lines(self) -> List[str]:
+    def lines(self) -> list[str]:
         """The pages that were written and taken away."""
         if self.fault:
             return [f"the plan holds, but its pages are not written: {fault_line(self.fault)}"]
@@ -71,9 +60,9 @@ def write_pages(
     plan: WardPlan,
     stamp: str,
     before: Mapping[str, Collection[int]],
-    old: Optional[WardPlan] = None,
+    old: WardPlan | None = None,
     earlier: Mapping[str, Sums] = {},
-    into: Optional[Path] = None,
+    into: Path | None = None,
 ) -> Pages:
     """Writes the pages of a plan with this name. Each page of the folder then shows it, or weeks
     that are over. `old` is the plan that was hung up before, `before` has the days of nurses'
@@ -117,7 +106,7 @@ def folder_of(top: Path, days: PlanDays) -> Path:
     return folder
 
 
-def folders_taken_away(top: Path, stay: Collection[Path]) -> List[Path]:
+def folders_taken_away(top: Path, stay: Collection[Path]) -> list[Path]:
     """Takes the pages of periods away that are not planned any more, or that run now."""
     old = [path for path in top.iterdir() if _FROM.fullmatch(path.name) and path not in stay]
     gone = [path for path in old if path.is_dir() and not path.is_symlink()]
@@ -131,7 +120,7 @@ def folders_taken_away(top: Path, stay: Collection[Path]) -> List[Path]:
     return gone
 
 
-def other_plan_pages(top: Path, stamp: str) -> Tuple[str, ...]:
+def other_plan_pages(top: Path, stamp: str) -> tuple[str, ...]:
     """The names of the pages that show another plan than the one with this name."""
     names = []
     for path in (top / ROSTER, top / WALL):
@@ -145,7 +134,7 @@ def other_plan_pages(top: Path, stamp: str) -> Tuple[str, ...]:
     return tuple(names)
 
 
-def taken_away(top: Path, names: Sequence[str]) -> List[Path]:
+def taken_away(top: Path, names: Sequence[str]) -> list[Path]:
     """Takes these files away; of a link only the link. Returns those that were there."""
     there = [top / name for name in names if (top / name).is_file()]
     for path in there:
@@ -155,7 +144,7 @@ def taken_away(top: Path, names: Sequence[str]) -> List[Path]:
 
 def calendars_taken_away(
     top: Path, nurses: Sequence[str], before: Mapping[str, Collection[int]]
-) -> List[Path]:
+) -> list[Path]:
     """Takes the calendars of this period away, if it has some. Returns their folder, if there were
     any."""
     names = file_names(dict.fromkeys((*nurses, *before))).values() if before else ()
@@ -173,7 +162,7 @@ def write_worked(top: Path, plan: WardPlan) -> Path:
     return path
 
 
-def write_table(top: Path, text: str) -> Tuple[Path, ...]:
+def write_table(top: Path, text: str) -> tuple[Path, ...]:
     """Writes the table of what was worked; without rows there is none. Returns its path, if it has
     another text now."""
     path = top / TABLES / WORKED
@@ -194,7 +183,7 @@ def worked_name(days: PlanDays, period: int) -> str:
     return f"worked-{period if days.monday is None else days.monday}.html"
 
 
-def worked_pages(top: Path) -> Dict[str, str]:
+def worked_pages(top: Path) -> dict[str, str]:
     """The names of the pages of weeks that are over, of all periods, the last one first, and their
     texts."""
     names = sorted(
@@ -206,7 +195,7 @@ def worked_pages(top: Path) -> Dict[str, str]:
     return {match[0]: f"Weeks that are over{_period_text(match[1])}" for match in matches}
 
 
-def _period_text(period: Optional[str]) -> str:
+def _period_text(period: str | None) -> str:
     """The period of such a page in words, by the part of its name."""
     if not period:
         return ""
@@ -217,7 +206,7 @@ def _period_text(period: Optional[str]) -> str:
         return f", period {period}"
 
 
-def own_calendars(top: Path) -> Set[str]:
+def own_calendars(top: Path) -> set[str]:
     """The names of the files in the folder of the calendars, if this folder is no link."""
     folder = top / CALENDARS
     return (
@@ -240,7 +229,7 @@ def _worked_content(plan: WardPlan) -> Content:
 
 def _write_calendars(
     top: Path, plan: WardPlan, before: Mapping[str, Collection[int]]
-) -> List[Path]:
+) -> list[Path]:
     """Writes a calendar of the whole period for each nurse if the plan has dates: weeks that are
     over as they were worked."""
     monday = plan.days.monday
@@ -263,7 +252,7 @@ def ward_name(top: Path) -> str:
     return readable(top.resolve().name)
 
 
-def roster_content(top: Path, plan: WardPlan, old: Optional[WardPlan] = None) -> Content:
+def roster_content(top: Path, plan: WardPlan, old: WardPlan | None = None) -> Content:
     """What the pages of a folder show: the weeks that are not over, as of now, and what differs
     from the plan that was hung up before."""
     monday = None if plan.days.monday is None else plan.days.monday + plan.first * DAY
@@ -284,7 +273,7 @@ def roster_content(top: Path, plan: WardPlan, old: Optional[WardPlan] = None) ->
     )
 
 
-def _of_table(plan: WardPlan, places: Iterable[NurseDay]) -> Set[Tuple[int, str, int]]:
+def _of_table(plan: WardPlan, places: Iterable[NurseDay]) -> set[tuple[int, str, int]]:
     """These nurses' days as a table of the weeks that are not over counts them."""
     return {
         (place.day // WEEK_DAYS - plan.state.open_week, place.nurse, place.day % WEEK_DAYS)

@@ -1,7 +1,7 @@
 """What a search of the planner has found, or why it has found nothing, in sentences."""
 
 from dataclasses import dataclass
-from typing import List, Mapping, Optional, Protocol
+from typing import Mapping, Protocol
 
 from ..search.why_none import CAN, Shortage, kept_no_absence_lines, lowered_text, shortage_head
 from ..week.dates import PlanDays
@@ -36,7 +36,7 @@ class Cause(Protocol):
     def old(self) -> WardPlan:
         """The plan before that."""
 
-    def heads(self, is_look: bool = False) -> List[str]:
+    def heads(self, is_look: bool = False) -> list[str]:
         """What is said of it before the changes of the plan that was found; a look repeats what was
         said before the search."""
 
@@ -46,23 +46,23 @@ class Planned(Outcome):
     """A search has found a plan."""
 
     # The plan before it, with its absences, if there is one; and with the absences of now.
-    before: Optional[WardPlan]
+    before: WardPlan | None
     old: WardPlan
     asked: Asked
     plan: WardPlan
     # The penalty of each week.
     penalties: Mapping[int, int]
     # What is known of other plans, if that speaks of such plans.
-    bound: Optional[KnownBound]
+    bound: KnownBound | None
     # Whether the user stopped the search, and by which signal, if it was one.
     is_stopped: bool
-    cause: Optional[Cause] = None
+    cause: Cause | None = None
     verb: str = ""
     # Whether the user looks at it before it is written.
     is_look: bool = False
-    ended_by: Optional[int] = None
+    ended_by: int | None = None
 
-    def lines(self, write: str = "") -> List[str]:
+    def lines(self, write: str = "") -> list[str]:
         """What a new plan does not keep, changes and costs, its bound, and whether it is
         written."""
         new = self.plan
@@ -101,7 +101,7 @@ class Planned(Outcome):
             )
         return [*said, *self.pages.lines()]
 
-    def _changed(self) -> List[str]:
+    def _changed(self) -> list[str]:
         """The shifts that change, and who has to be called; only their number in a plan that nobody
         has seen."""
         before = self.before
@@ -127,9 +127,9 @@ class NoPlan(Outcome):
     plan: WardPlan
     week: int
     shortage: Shortage
-    cause: Optional[Cause] = None
+    cause: Cause | None = None
 
-    def lines(self, write: str = "") -> List[str]:
+    def lines(self, write: str = "") -> list[str]:
         """The week that has no roster, which minimum numbers to lower, and who is missing."""
         plan = self.plan
         begin = self.cause.heads() if self.cause else []
@@ -161,7 +161,7 @@ def _agreement_text(new: WardPlan, broken: Agreement) -> str:
     )
 
 
-def cost_lines(penalties: Mapping[int, int], days: PlanDays) -> List[str]:
+def cost_lines(penalties: Mapping[int, int], days: PlanDays) -> list[str]:
     """What each week costs, and all of them."""
     said = [f"{days.week_text(number)}: {points} points" for number, points in penalties.items()]
     return (
@@ -171,7 +171,7 @@ def cost_lines(penalties: Mapping[int, int], days: PlanDays) -> List[str]:
     )
 
 
-def bound_text(known: Optional[KnownBound]) -> str:
+def bound_text(known: KnownBound | None) -> str:
     """What a plan costs, how many points cannot be avoided, and whether that is proved; after it
     the other bound, if it is higher."""
     if not known:

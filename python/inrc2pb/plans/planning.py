@@ -1,7 +1,7 @@
 """The verbs that search share this: a search for a plan, and the plan that is written."""
 
 from dataclasses import replace
-from typing import Callable, List, Optional, Sequence
+from typing import Callable, Sequence
 
 from ..programs.clock import Clock
 from ..programs.interrupts import interrupts
@@ -53,7 +53,7 @@ def searched(
     verb: str,
     old: WardPlan,
     asked: Asked,
-    cause: Optional[Cause] = None,
+    cause: Cause | None = None,
 ) -> Outcome:
     """Searches, and writes the plan. The `cause` has the plan without what it asks for."""
     say(store, search_lines(old, asked, store.means.end))
@@ -105,7 +105,7 @@ def searched(
         return saved(planned, store.save(verb, new, event.typed))
 
 
-def search_lines(plan: WardPlan, asked: Asked, end: str) -> List[str]:
+def search_lines(plan: WardPlan, asked: Asked, end: str) -> list[str]:
     """What a search begins with; `end` says how a user ends it."""
     days = plan.days.span([asked.first, plan.days.total - 1])
     return [f"{days}, at most {asked.seconds:g} seconds in all{f'; {end}' if end else ''}"]
@@ -138,7 +138,7 @@ def _found(store: PlanStore, old: WardPlan, asked: Asked) -> Found:
     if asked.is_firm or not (old.state.set_days if asked.agreed is Keep.NONE else old.state.kept):
         return search_plan(old, asked, store.means.progress)
     clock = Clock(asked.seconds)
-    firm: Optional[Found] = None
+    firm: Found | None = None
     try:
         first = asked._replace(seconds=FIRM_SHARE * asked.seconds)
         firm = search_plan(old, first, store.means.progress)
@@ -157,7 +157,7 @@ def _found(store: PlanStore, old: WardPlan, asked: Asked) -> Found:
 
 
 def _no_plan(
-    store: PlanStore, old: WardPlan, asked: Asked, fault: ProgramFault, cause: Optional[Cause]
+    store: PlanStore, old: WardPlan, asked: Asked, fault: ProgramFault, cause: Cause | None
 ) -> NoPlan:
     """Which minimum numbers to lower, if that is why there is no plan."""
     if fault.status != NO_ROSTER or asked.is_firm:

@@ -1,7 +1,7 @@
 """What rows of choices cost their nurses, and how much work a search for exchanges may take."""
 
 from dataclasses import replace
-from typing import Callable, Dict, Tuple
+from typing import Callable
 
 from ..judging.runs import NEVER
 from ..rows.plan import Plan
@@ -44,7 +44,7 @@ class RowCosts:
         self._work = work
         self._nurses = {nurse: number for number, nurse in enumerate(weeks.nurses)}
         self.numbers = {shift: number for number, shift in enumerate(plan.scenario.shift_types, 1)}
-        self._known: Dict[Tuple[str, bytes], int] = {}
+        self._known: dict[tuple[str, bytes], int] = {}
 
     def of(self, nurse: str, row: bytes) -> int:
         """The charges; NEVER if a shift type may not follow another one."""

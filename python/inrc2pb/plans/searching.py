@@ -5,7 +5,7 @@ import enum
 import tempfile
 from dataclasses import replace
 from pathlib import Path
-from typing import Dict, Iterator, List, Mapping, NamedTuple, Optional, Sequence, Tuple
+from typing import Iterator, Mapping, NamedTuple, Sequence
 
 from ..judging.days_away import DaysAway
 from ..judging.runs import ANY_CHOICE
@@ -63,7 +63,7 @@ class KnownBound(NamedTuple):
     # The least that a plan can cost.
     bound: Bound
     # The least that one can cost that also keeps the days beside days away, if that is known.
-    beside: Optional[int] = None
+    beside: int | None = None
 
     @property
     def is_proved(self) -> bool:
@@ -76,13 +76,13 @@ class Found(NamedTuple):
     it."""
 
     plan: WardPlan
-    bound: Optional[KnownBound] = None
+    bound: KnownBound | None = None
     stopped: bool = False
 
 
 def search_plan(old: WardPlan, asked: Asked, progress: Progress) -> Found:
     """The best plan of the weeks that are not over. It begins with the old one, if there is one."""
-    kept: List[Sequence[Cell]] = []
+    kept: list[Sequence[Cell]] = []
     with tempfile.TemporaryDirectory(prefix="inrc2pb-plan-") as name:
         files = _files(old, asked, Path(name))
         beside = old.days_away._replace(fixed=asked.first - old.first)
@@ -116,18 +116,18 @@ def search_plan(old: WardPlan, asked: Asked, progress: Progress) -> Found:
     return Found(old.with_cells(labelled), bound, clock.stopped)
 
 
-def known_bound(search: PeriodSearch) -> Optional[KnownBound]:
+def known_bound(search: PeriodSearch) -> KnownBound | None:
     """What a search knows of all other plans."""
     if search.bound is None or search.penalty is None:
         return None
     return KnownBound(search.penalty, search.bound, search.bound_beside)
 
 
-def _older_rows(old: WardPlan) -> Dict[str, bytes]:
+def _older_rows(old: WardPlan) -> dict[str, bytes]:
     """The rows of the nurses who have shifts in the plan. On a day on which one is away she need
     not be called."""
     numbers = {shift: number for number, shift in enumerate(old.scenario.shift_types, 1)}
-    rows: Dict[str, bytes] = {}
+    rows: dict[str, bytes] = {}
     for nurse in dict.fromkeys(place.nurse for place in old.works):
         places = (NurseDay(nurse, day) for day in range(old.first, old.days.total))
         cells = ((place, old.works.get(place)) for place in places)
@@ -189,7 +189,7 @@ def _files(old: WardPlan, asked: Asked, folder: Path) -> PeriodFiles:
 
 
 # The shifts on nurses' days that a search keeps; None is a day off.
-_Agreed = Mapping[NurseDay, Optional[Cell]]
+_Agreed = Mapping[NurseDay, Cell | None]
 
 
 def _week(old: WardPlan, number: int, asked: Asked, agreed: _Agreed) -> WeekData:
@@ -204,18 +204,18 @@ def _week(old: WardPlan, number: int, asked: Asked, agreed: _Agreed) -> WeekData
         [(place.nurse, place.day - first) for place in days if place.day // WEEK_DAYS == number]
         for days in (agreed, days_off_beside_absences(old))
     )
-    works: Dict[NurseDay, Optional[Cell]] = {**old.works, **agreed}
+    works: dict[NurseDay, Cell | None] = {**old.works, **agreed}
     roster = in_week([cell for cell in works.values() if cell], number)
     return with_few_changes(
         old.scenario, old.data[number], roster, softly, agreed=of_week, new=new, beside=beside
     )
 
 
-def kept_agreed(old: WardPlan, asked: Asked) -> Dict[NurseDay, Optional[Cell]]:
+def kept_agreed(old: WardPlan, asked: Asked) -> dict[NurseDay, Cell | None]:
     """The days of swaps, and those that were set, that can be kept: nobody is away on them, who
     works has the skill, and the spreadsheet holds no shift."""
 
-    def can_be_kept(place: NurseDay, cell: Optional[Cell]) -> bool:
+    def can_be_kept(place: NurseDay, cell: Cell | None) -> bool:
         is_possible = cell is None or old.may_have(cell)
         return place.day >= asked.first and place not in old.held and is_possible
 
@@ -237,7 +237,7 @@ def _off(place: NurseDay) -> Claim:
     return Claim(Choice(place.day // WEEK_DAYS + 1, place.nurse, place.day % WEEK_DAYS, None))
 
 
-def _later_claims(old: WardPlan, first: int) -> List[Claim]:
+def _later_claims(old: WardPlan, first: int) -> list[Claim]:
     """What plans keep, but for absences before this day."""
 
     def is_past(fact: Fact) -> bool:
@@ -258,7 +258,7 @@ def _past_claims(old: WardPlan, first: int) -> Iterator[Claim]:
     return (_off(place) for place in places if place not in old.works)
 
 
-def why_no_plan(plan: WardPlan) -> Optional[Tuple[int, Shortage]]:
+def why_no_plan(plan: WardPlan) -> tuple[int, Shortage] | None:
     """The first week that has no roster, and which minimum numbers to lower in it; None if each
     week alone has one."""
     with tempfile.TemporaryDirectory(prefix="inrc2pb-plan-") as name:

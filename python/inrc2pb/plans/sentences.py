@@ -1,6 +1,6 @@
 """The words of facts about a plan: its changes, what it does not keep, and what it has."""
 
-from typing import Dict, Iterable, Iterator, List, Mapping, Optional
+from typing import Iterable, Iterator, Mapping
 
 from ..judging.absences import in_words
 from ..judging.limits import limits_in_words, limits_way_out
@@ -31,7 +31,7 @@ from .ward import WardPlan
 # ---- shifts, days and nurses
 
 
-def cell_text(cell: Optional[Cell], away: str = OFF) -> str:
+def cell_text(cell: Cell | None, away: str = OFF) -> str:
     """A shift with its skill in words; without a shift why the nurse is away, or `off`."""
     return readable(shifts_text([cell] if cell else (), away))
 
@@ -41,7 +41,7 @@ def change_lines(
     days: PlanDays,
     away: Mapping[NurseDay, str] = {},
     before: Mapping[NurseDay, str] = {},
-) -> List[str]:
+) -> list[str]:
     """A line for each change. `away` has words for the nurses' days on which they are away, and
     `before` those of the older plan."""
     return [
@@ -54,7 +54,7 @@ def change_lines(
     ]
 
 
-def call_lines(changes: Iterable[ShiftChange], away: Mapping[NurseDay, str] = {}) -> List[str]:
+def call_lines(changes: Iterable[ShiftChange], away: Mapping[NurseDay, str] = {}) -> list[str]:
     """The nurses to call, if there are some."""
     nurses = called(changes, away)
     return (
@@ -64,7 +64,7 @@ def call_lines(changes: Iterable[ShiftChange], away: Mapping[NurseDay, str] = {}
     )
 
 
-def wish_lines(old: Optional[WardPlan], new: WardPlan) -> List[str]:
+def wish_lines(old: WardPlan | None, new: WardPlan) -> list[str]:
     """The wishes that are not granted, or only those that an older plan grants and this one does
     not."""
     begin = "wish lost" if old else "wish not granted"
@@ -77,9 +77,9 @@ def wish_lines(old: Optional[WardPlan], new: WardPlan) -> List[str]:
 # ---- what a plan does not keep
 
 
-def unkept_lines(plan: WardPlan, unkept: Iterable[Unkept]) -> List[str]:
+def unkept_lines(plan: WardPlan, unkept: Iterable[Unkept]) -> list[str]:
     """Who works while she is away, or above a limit that holds, and what would help."""
-    said: List[str] = []
+    said: list[str] = []
     for missed in unkept:
         week = plan.days.week_text(missed.week)
         names = plan.day_names(missed.week)
@@ -103,7 +103,7 @@ def unkept_lines(plan: WardPlan, unkept: Iterable[Unkept]) -> List[str]:
     return said
 
 
-def working_lines(plan: WardPlan) -> List[str]:
+def working_lines(plan: WardPlan) -> list[str]:
     """Who works on days on which she is away, or a shift type that she never works, since the
     spreadsheet says so now."""
     missing = unkept(plan) if plan.is_planned else []
@@ -115,7 +115,7 @@ def working_lines(plan: WardPlan) -> List[str]:
     ]
 
 
-def exceeded_lines(plan: WardPlan) -> List[str]:
+def exceeded_lines(plan: WardPlan) -> list[str]:
     """The limits that hold which the plan that holds exceeds, and what would help; none if there is
     no plan."""
     said = []
@@ -128,7 +128,7 @@ def exceeded_lines(plan: WardPlan) -> List[str]:
     return said + [_shifts_line(plan, many) for many in too_many_shifts(plan)]
 
 
-def days_away_lines(plan: WardPlan) -> List[str]:
+def days_away_lines(plan: WardPlan) -> list[str]:
     """The nurses whose shifts are too many only since days away count as shifts, and what would
     help."""
     return [_shifts_line(plan, many) for many in too_many_by_days_away(plan)]
@@ -164,12 +164,12 @@ def beside_text(days: PlanDays, beside: Beside) -> str:
     )
 
 
-def beside_lines(plan: WardPlan) -> List[str]:
+def beside_lines(plan: WardPlan) -> list[str]:
     """What is wrong beside days away, a line for each."""
     return [beside_text(plan.days, beside) for beside in beside_days_away(plan)]
 
 
-def due_lines(plan: WardPlan) -> List[str]:
+def due_lines(plan: WardPlan) -> list[str]:
     """A line for each charge in which days away have a part, and the sum of what is due to them."""
     due = due_to_days_away(plan)
     said = []
@@ -194,7 +194,7 @@ def broken_text(plan: WardPlan, broken: Broken) -> str:
     return f"{plan.days.week_text(broken.week)} exceeds a limit that holds: {words}"
 
 
-def evenness_lines(plan: WardPlan) -> List[str]:
+def evenness_lines(plan: WardPlan) -> list[str]:
     """How evenly nights and weekends are shared among the nurses of each contract who may work
     them."""
     shared = evenness(plan)
@@ -220,7 +220,7 @@ def _to_most(fewest: int, most: int) -> str:
 
 def anew_lines(rows: Iterable[WeekRow], days: PlanDays) -> Iterator[str]:
     """That the weeks of these rows count anew in a period of these days, a line for each week."""
-    numbers_of: Dict[int, List[str]] = {}
+    numbers_of: dict[int, list[str]] = {}
     for row in sorted(rows, key=lambda row: (row.week, row.number)):
         numbers_of.setdefault(row.week, []).append(str(row.number))
     for week, numbers in numbers_of.items():

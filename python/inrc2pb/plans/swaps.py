@@ -7,7 +7,7 @@ the places that the nurse leaves and takes.
 """
 
 from collections import Counter
-from typing import Dict, Iterator, List, NamedTuple, Optional, Sequence, Tuple
+from typing import Iterator, NamedTuple, Sequence
 
 from ..judging.obstacles import Obstacle
 from ..week.records import Cell, NurseDay, Place, exchanged
@@ -27,10 +27,10 @@ class Swap(NamedTuple):
 
     nurse: str
     other: str
-    days: Tuple[int, ...]
+    days: tuple[int, ...]
 
     @property
-    def places(self) -> List[NurseDay]:
+    def places(self) -> list[NurseDay]:
         """The days of both nurses."""
         return [NurseDay(nurse, day) for nurse in (self.nurse, self.other) for day in self.days]
 
@@ -48,10 +48,10 @@ class Instead(NamedTuple):
 
     cost: int
     nurse: str
-    swap: Optional[Swap] = None
+    swap: Swap | None = None
 
 
-def swapped(cells: Sequence[Cell], swap: Swap) -> List[Cell]:
+def swapped(cells: Sequence[Cell], swap: Swap) -> list[Cell]:
     """The shifts after the swap."""
     pairs = ((swap.nurse, swap.other), (swap.other, swap.nurse))
     return exchanged(
@@ -72,11 +72,11 @@ class Swaps:
         }
         self._number = Counter(Place(*cell[1:]) for cell in plan.cells)
 
-    def works(self, nurse: str, day: int) -> Optional[Cell]:
+    def works(self, nurse: str, day: int) -> Cell | None:
         """The nurse's shift on a day, if she has one."""
         return self._cells[nurse].get(day)
 
-    def _after(self, swap: Swap) -> Iterator[Tuple[str, Dict[int, Cell]]]:
+    def _after(self, swap: Swap) -> Iterator[tuple[str, dict[int, Cell]]]:
         """The shifts of the two nurses after the swap."""
         for nurse, other in ((swap.nurse, swap.other), (swap.other, swap.nurse)):
             kept = {day: cell for day, cell in self._cells[nurse].items() if day not in swap.days}
@@ -94,7 +94,7 @@ class Swaps:
             for nurse, cells in self._after(swap)
         )
 
-    def faults(self, swap: Swap) -> List[Fault]:
+    def faults(self, swap: Swap) -> list[Fault]:
         """Why the swap cannot be: promises, hard rules, limits, absences and held shifts that it
         breaks, and what it makes worse beside days away."""
         after = list(self._after(swap))
@@ -120,7 +120,7 @@ class Swaps:
             if cells.get(promise.day) not in (promise.cell, self.works(nurse, promise.day)):
                 yield Fault(Obstacle.PROMISED, nurse, promise.day, promise=promise)
 
-    def offers(self, nurse: str, day: int) -> List[Offer]:
+    def offers(self, nurse: str, day: int) -> list[Offer]:
         """All swaps by which another nurse takes this shift, the cheapest and nearest first: alone,
         or for one of her shifts."""
         offers = [
@@ -139,7 +139,7 @@ class Swaps:
 
     # ---- one day of one nurse
 
-    def day_faults(self, place: NurseDay, now: Optional[Cell]) -> List[Fault]:
+    def day_faults(self, place: NurseDay, now: Cell | None) -> list[Fault]:
         """Why the nurse cannot have this shift on her day in place of her old one, or cannot be
         off."""
         nurse, day = place
@@ -163,7 +163,7 @@ class Swaps:
         fixed = {*self.plan.held, *self.plan.state.kept}
         return beside.day >= self.plan.first and beside not in fixed
 
-    def day_cost(self, place: NurseDay, now: Optional[Cell]) -> int:
+    def day_cost(self, place: NurseDay, now: Cell | None) -> int:
         """What that adds to the penalty: the charges of the nurse, and of the places that she
         leaves and takes."""
         changed = (
@@ -176,7 +176,7 @@ class Swaps:
             changed += MISSING_NURSE * (max(0, missing - step) - max(0, missing))
         return changed
 
-    def instead(self, place: NurseDay, now: Optional[Cell]) -> List[Instead]:
+    def instead(self, place: NurseDay, now: Cell | None) -> list[Instead]:
         """Who could do it instead, the cheapest first: take the shift of a nurse who is to be off,
         or have the shift that she is to have, by a swap with one who has it, or in addition to
         those who have it."""
@@ -186,7 +186,7 @@ class Swaps:
         ways = [self._instead(place, now, other) for other in self._cells if other != place.nurse]
         return sorted((way for way in ways if way), key=lambda way: way.cost)
 
-    def _instead(self, place: NurseDay, now: Cell, other: str) -> Optional[Instead]:
+    def _instead(self, place: NurseDay, now: Cell, other: str) -> Instead | None:
         """How another nurse could have this shift instead, if she could."""
         before = self.works(other, place.day)
         swap = Swap(place.nurse, other, (place.day,))
@@ -198,12 +198,12 @@ class Swaps:
         is_refused = her in self.plan.state.promised or self.day_faults(her, hers)
         return None if is_refused else Instead(self.day_cost(her, hers), other)
 
-    def _with_day(self, place: NurseDay, now: Optional[Cell]) -> Dict[int, Cell]:
+    def _with_day(self, place: NurseDay, now: Cell | None) -> dict[int, Cell]:
         """The nurse's shifts with this one on her day, or with none."""
         others = {day: cell for day, cell in self._cells[place.nurse].items() if day != place.day}
         return {**others, place.day: now} if now else others
 
-    def _steps(self, place: NurseDay, now: Optional[Cell]) -> Iterator[Tuple[Place, int]]:
+    def _steps(self, place: NurseDay, now: Cell | None) -> Iterator[tuple[Place, int]]:
         """The place that the nurse leaves, which has a nurse less then, and the one that she takes,
         which has one more."""
         before = self.works(*place)

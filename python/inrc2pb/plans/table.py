@@ -1,7 +1,6 @@
 """The verbs of a ward's folder: all that the terminal and the page can ask for."""
 
 from dataclasses import replace
-from typing import Dict, Optional, Tuple
 
 from ..week.records import NurseDay
 from .planned import Planned
@@ -13,7 +12,7 @@ from .ward import WardPlan
 from .ward_folder import WardFolder
 
 # In the order of the help and of the page.
-VERBS: Tuple[Verb, ...] = (
+VERBS: tuple[Verb, ...] = (
     check.VERB,
     plan.VERB,
     away.VERB,
@@ -38,19 +37,19 @@ class Verbs:
         """The plan that holds, with what the spreadsheet says now."""
         return self._store.current()
 
-    def worked_pages(self, now: Optional[WardPlan]) -> Dict[str, str]:
+    def worked_pages(self, now: WardPlan | None) -> dict[str, str]:
         """The pages of weeks that are over, with this plan, if there is one, and their texts."""
         return self._store.worked_pages(now)
 
-    def hung_up(self, now: WardPlan) -> Optional[WardPlan]:
+    def hung_up(self, now: WardPlan) -> WardPlan | None:
         """The last plan of the same days that was hung up before the one that holds."""
         return self._store.hung_up(now)
 
-    def agreed_swap(self, now: WardPlan, place: NurseDay) -> Optional[Swap]:
+    def agreed_swap(self, now: WardPlan, place: NurseDay) -> Swap | None:
         """The last swap that was written for a nurse's day, if the plan keeps it."""
         return swap.agreed_swap(self._store, now, place)
 
-    def asked(self, event: Event) -> Optional[Outcome]:
+    def asked(self, event: Event) -> Outcome | None:
         """What comes of an event before anything is searched or written, as far as that is known.
         Raises Misuse if what is asked for cannot be."""
         return BY_NAME[event.verb].asked(self._store_of(event), event)

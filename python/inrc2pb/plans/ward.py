@@ -3,7 +3,7 @@
 import itertools
 from dataclasses import dataclass, replace
 from functools import cached_property
-from typing import Dict, FrozenSet, Iterable, List, Optional, Sequence, Tuple
+from typing import Iterable, Sequence
 
 from ..judging.absences import absences_of
 from ..judging.days_away import DaysAway
@@ -56,8 +56,8 @@ class WardPlan:
 
     ward: Ward
     state: State
-    limits: Tuple[Claim, ...]
-    unknown: Tuple[Cell, ...] = ()
+    limits: tuple[Claim, ...]
+    unknown: tuple[Cell, ...] = ()
 
     @property
     def days(self) -> PlanDays:
@@ -85,7 +85,7 @@ class WardPlan:
         return self.state.planned >= self.days.weeks
 
     @cached_property
-    def data(self) -> Tuple[WeekData, ...]:
+    def data(self) -> tuple[WeekData, ...]:
         """The needs, wishes, absences and limits of each week, with the days of the week, as judges
         of a week take them."""
         return tuple(
@@ -94,7 +94,7 @@ class WardPlan:
         )
 
     @cached_property
-    def needs(self) -> Dict[Place, Requirement]:
+    def needs(self) -> dict[Place, Requirement]:
         """How many nurses the places of the weeks that are not over need."""
         weeks = ((WEEK_DAYS * number, self.data[number].requirements) for number in self.weeks)
         return {
@@ -104,7 +104,7 @@ class WardPlan:
         }
 
     @cached_property
-    def absences(self) -> FrozenSet[Absence]:
+    def absences(self) -> frozenset[Absence]:
         """The shifts that nurses may not have in the weeks that are not over."""
         weeks = ((WEEK_DAYS * number, absences_of(self.data[number])) for number in self.weeks)
         return frozenset(
@@ -118,7 +118,7 @@ class WardPlan:
         return not obstacles(self.scenario, self.absences, cell)
 
     @cached_property
-    def away(self) -> Dict[NurseDay, str]:
+    def away(self) -> dict[NurseDay, str]:
         """The days of the weeks that are not over on which nurses are away, and why: a word of the
         sheet plan, `promised` for days off that it promises, or `off` for days on which they are
         always off."""
@@ -158,17 +158,17 @@ class WardPlan:
         return DaysAway(training, free, frozenset(nights))
 
     @cached_property
-    def cells(self) -> Tuple[Cell, ...]:
+    def cells(self) -> tuple[Cell, ...]:
         """The shifts of the weeks that are not over."""
         return tuple(cell for cell in self.state.cells if cell.day >= self.first)
 
     @cached_property
-    def works(self) -> Dict[NurseDay, Cell]:
+    def works(self) -> dict[NurseDay, Cell]:
         """The shift of each nurse's day in the weeks that are not over."""
         return {NurseDay(cell.nurse, cell.day): cell for cell in self.cells}
 
     @cached_property
-    def held(self) -> Dict[NurseDay, Cell]:
+    def held(self) -> dict[NurseDay, Cell]:
         """The shifts of the weeks that are not over that the sheet plan fixes."""
         return {
             NurseDay(cell.nurse, cell.day): cell
@@ -177,7 +177,7 @@ class WardPlan:
         }
 
     @cached_property
-    def shifts(self) -> Dict[NurseDay, str]:
+    def shifts(self) -> dict[NurseDay, str]:
         """The shift types of the nurses' days in the weeks that are not over."""
         return {
             NurseDay(nurse, day - self.first): cell.shift
@@ -185,7 +185,7 @@ class WardPlan:
         }
 
     @cached_property
-    def histories(self) -> List[History]:
+    def histories(self) -> list[History]:
         """The history of each week, as far as rosters are known."""
         histories = [credited(self.state.start, self.ward.counted)]
         for number in range(min(self.state.planned, self.days.weeks - 1)):
@@ -201,7 +201,7 @@ class WardPlan:
         """A week's ward, history and file."""
         return Week(self.scenario, self.histories[number], self.data[number])
 
-    def day_names(self, number: int) -> List[str]:
+    def day_names(self, number: int) -> list[str]:
         """The days of a week in sentences."""
         return [self.days.text(WEEK_DAYS * number + day) for day in range(WEEK_DAYS)]
 
@@ -227,7 +227,7 @@ class WardPlan:
             self.ward.with_absences(absences), replace(self.state, absences=tuple(absences))
         )
 
-    def view(self, shown: Optional[range] = None) -> RosterView:
+    def view(self, shown: range | None = None) -> RosterView:
         """Some weeks, or those that are not over, to be shown."""
         weeks = []
         for number in self.weeks if shown is None else shown:
@@ -247,7 +247,7 @@ class WardPlan:
         names = (list(ward.nurses), list(ward.shift_types), list(ward.skills))
         return RosterView(ward.name, *names, weeks, credit=dict(self.ward.credit))
 
-    def reasons(self, number: int) -> Dict[Tuple[str, int], str]:
+    def reasons(self, number: int) -> dict[tuple[str, int], str]:
         """Why nurses are away on the days of a week, also of one that is over, with the days of the
         week."""
         days = [
@@ -267,7 +267,7 @@ class WardPlan:
         return {**off, **words}
 
 
-def plan_of(ward: Ward, state: State, unknown: Tuple[Cell, ...] = ()) -> WardPlan:
+def plan_of(ward: Ward, state: State, unknown: tuple[Cell, ...] = ()) -> WardPlan:
     """The plan of a ward and of what verbs have made of it, judged by the limits of this state."""
     return WardPlan(ward, state, limits_of(ward, state), unknown)
 
@@ -278,12 +278,12 @@ def for_leavers(plan: WardPlan, first: int) -> WardPlan:
     return replace(plan, limits=limits_for_leavers(plan.ward, plan.state, plan.limits, first))
 
 
-def first_plan(ward: Ward, past: Optional[History] = None) -> WardPlan:
+def first_plan(ward: Ward, past: History | None = None) -> WardPlan:
     """The plan of a spreadsheet before anything is planned, after this history, if there is one."""
     return plan_of(ward, State(ward.days, _start(ward, past)))
 
 
-def _start(ward: Ward, past: Optional[History]) -> History:
+def _start(ward: Ward, past: History | None) -> History:
     """The history before the first week. Nurses whom an older one does not have begin as the sheet
     says."""
     known = past.nurses if past else {}
@@ -292,7 +292,7 @@ def _start(ward: Ward, past: Optional[History]) -> History:
     )
 
 
-def continued(ward: Ward, state: State, past: Optional[History] = None) -> WardPlan:
+def continued(ward: Ward, state: State, past: History | None = None) -> WardPlan:
     """The plan of a folder, with what its spreadsheet says now; it begins with this history, if the
     period before it is known. Raises Misuse if the spreadsheet has another period, or lacks a name
     of a week that is over; planned shifts whose names it lacks are left out."""
@@ -321,7 +321,7 @@ def continued(ward: Ward, state: State, past: Optional[History] = None) -> WardP
     return plan_of(ward, now, unknown)
 
 
-def _with_lost_shifts(ward: Ward, state: State) -> Tuple[DayWord, ...]:
+def _with_lost_shifts(ward: Ward, state: State) -> tuple[DayWord, ...]:
     """The words of verbs, and for an illness that only the spreadsheet has the shifts that it takes
     from a plan on the wall, if it takes some."""
     known = {(absence.nurse, absence.day) for absence in state.absences}

@@ -2,7 +2,7 @@
 
 import itertools
 import unicodedata
-from typing import Collection, List, NoReturn, Optional, Sequence, Tuple
+from typing import Collection, NoReturn, Sequence
 
 from ..sheets.sheet_cells import tidy
 from ..week.dates import MONTHS, PlanDays, is_day
@@ -53,7 +53,7 @@ class Wording:
         del self._left[: texts.index(text) + 1]
         return self._known("nurse", text, self._nurses)
 
-    def day(self, near: Optional[int] = None) -> int:
+    def day(self, near: int | None = None) -> int:
         """A day; a day of the week is the first one from the day `near` on, or from the first day
         that is not over."""
         if self.is_over:
@@ -70,7 +70,7 @@ class Wording:
             text += f" {self._left.pop(0)}"
         return self._days.number(text, self._first if near is None else near)
 
-    def open_day(self, near: Optional[int] = None) -> int:
+    def open_day(self, near: int | None = None) -> int:
         """The same. Raises Misuse if the day is in a week that is over."""
         day = self.day(near)
         if day < self._first:
@@ -87,7 +87,7 @@ class Wording:
             return ""
         return self._left.pop(0).casefold()
 
-    def shift(self, names: Collection[str], skills: Collection[str]) -> Tuple[str, str]:
+    def shift(self, names: Collection[str], skills: Collection[str]) -> tuple[str, str]:
         """One of these shift types, and the skill that follows it, as in `Late/Nurse`, or
         nothing."""
         if self.is_over:
@@ -135,7 +135,7 @@ class Wording:
         raise Misuse(f"{what}: write, for example, {self._usage}")
 
 
-def _named(text: str, names: Collection[str], whole: bool = False) -> List[str]:
+def _named(text: str, names: Collection[str], whole: bool = False) -> list[str]:
     """The names that begin with this text, or that equal it if it is a whole name; case does not
     matter, nor do accents, unless names differ in nothing else."""
     for folded in (str.casefold, _without_accents):

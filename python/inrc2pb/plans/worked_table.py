@@ -4,7 +4,7 @@ is over on which she worked, was to work, or was away. It is a copy, which no ve
 import csv
 import io
 from pathlib import Path
-from typing import Callable, Dict, Iterator, List, Sequence, Tuple
+from typing import Callable, Iterator, Sequence
 
 from ..week.facts import read_reasons
 from ..week.faults import FileFault
@@ -25,7 +25,7 @@ def worked_text(folders: Sequence[Path], name_now: Callable[[str], str]) -> str:
     now; nothing if no week is over. `planned` is the shift of the last plan before the week was
     over."""
     planned = _planned_files(folders)
-    rows: List[Tuple[str, ...]] = []
+    rows: list[tuple[str, ...]] = []
     for period in periods_of(folders):
         if period.days.monday is not None:
             rows += _rows(period, planned, name_now)
@@ -36,7 +36,7 @@ def worked_text(folders: Sequence[Path], name_now: Callable[[str], str]) -> str:
     return text.getvalue()
 
 
-def _planned_files(folders: Sequence[Path]) -> Dict[Tuple[int, int], Path]:
+def _planned_files(folders: Sequence[Path]) -> dict[tuple[int, int], Path]:
     """The roster of each period and week as it was planned last, before the week was over."""
     return {
         (number, week): folder / roster_name(week)
@@ -46,8 +46,8 @@ def _planned_files(folders: Sequence[Path]) -> Dict[Tuple[int, int], Path]:
 
 
 def _rows(
-    period: Period, planned: Dict[Tuple[int, int], Path], name_now: Callable[[str], str]
-) -> Iterator[Tuple[str, ...]]:
+    period: Period, planned: dict[tuple[int, int], Path], name_now: Callable[[str], str]
+) -> Iterator[tuple[str, ...]]:
     """The rows of a period, but for damaged folders."""
     try:
         state = state_of(period)
@@ -72,7 +72,7 @@ def _rows(
         yield nurse, str(period.days.date(place.day)), shift, skill, plan
 
 
-def _cells(paths: Sequence[Path | None]) -> Dict[NurseDay, Cell]:
+def _cells(paths: Sequence[Path | None]) -> dict[NurseDay, Cell]:
     """The shifts of these rosters of weeks, as far as they are there."""
     cells = {}
     for week, path in enumerate(paths):

@@ -4,7 +4,7 @@ the date of today."""
 import datetime
 import threading
 import time
-from typing import Callable, Optional
+from typing import Callable
 
 # Seconds between two looks at what someone waits for.
 PAUSE = 0.2
@@ -23,7 +23,7 @@ class Clock:
     """Some seconds from now on. `part` gives a part of them, which ends at the latest with the
     whole."""
 
-    def __init__(self, seconds: float, whole: "Optional[Clock]" = None) -> None:
+    def __init__(self, seconds: float, whole: "Clock | None" = None) -> None:
         self.began = time.monotonic()
         self.limit = self.began + seconds
         self._stopped = threading.Event()

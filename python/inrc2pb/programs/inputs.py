@@ -6,12 +6,12 @@ import shutil
 import tempfile
 import weakref
 from pathlib import Path
-from typing import Dict, Iterator, List, Optional, TypeVar
+from typing import Iterator, TypeVar
 
 from ..week.faults import FileFault, Misuse, ProgramFault
 from ..week.slots import MAX_FILE_LEN
 
-Given = TypeVar("Given", Path, Optional[Path])
+Given = TypeVar("Given", Path, Path | None)
 
 
 class Inputs:
@@ -20,7 +20,7 @@ class Inputs:
 
     def __init__(self) -> None:
         self._folder = Path(tempfile.mkdtemp(prefix="inrc2pb-inputs-"))
-        self._copies: Dict[Path, Path] = {}
+        self._copies: dict[Path, Path] = {}
         weakref.finalize(self, shutil.rmtree, str(self._folder), ignore_errors=True)
 
     def copy(self, path: Given) -> Given:
@@ -61,7 +61,7 @@ class Inputs:
         for attribute, value in vars(fault).items():
             setattr(fault, attribute, renamed(value))
 
-    def changes(self) -> List[str]:
+    def changes(self) -> list[str]:
         """A line for each file that has something else now than its copy."""
         return [
             f"{path} was {what} during the search: this is about the old one"

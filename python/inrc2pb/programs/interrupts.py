@@ -4,7 +4,7 @@ has."""
 import contextlib
 import signal
 import threading
-from typing import Callable, Iterator, List, Optional
+from typing import Callable, Iterator
 
 from ..week.faults import Stopped
 
@@ -26,8 +26,8 @@ class Interrupts:
     of its own."""
 
     def __init__(self) -> None:
-        self.caught: List[int] = []
-        self._action: Optional[Callable[[], None]] = None
+        self.caught: list[int] = []
+        self._action: Callable[[], None] | None = None
 
     @contextlib.contextmanager
     def calling(self, action: Callable[[], None]) -> Iterator[None]:
@@ -68,7 +68,7 @@ class Interrupts:
         self.ask()
 
 
-_installed: List[Interrupts] = []
+_installed: list[Interrupts] = []
 
 
 @contextlib.contextmanager

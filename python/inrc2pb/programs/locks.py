@@ -6,7 +6,7 @@ import fcntl
 import os
 import time
 from pathlib import Path
-from typing import Callable, Iterable, Iterator, Optional, Set
+from typing import Callable, Iterable, Iterator
 
 from ..week.faults import ProgramFault, Stopped
 from ..week.writing import file_at, is_open_file
@@ -21,7 +21,7 @@ PAUSE = 0.2
 NAME_BYTES = 200
 
 # The files that this process has locked: a search may be a part of another.
-_locked: Set[Path] = set()
+_locked: set[Path] = set()
 
 
 @contextlib.contextmanager
@@ -83,7 +83,7 @@ def _taken(lock: Path, target: Path, wait: bool, say: Callable[[str], None]) -> 
             time.sleep(PAUSE)
 
 
-def _try_to_take(lock: Path) -> Optional[int]:
+def _try_to_take(lock: Path) -> int | None:
     """The handle of the lock; None if another process has it. The lock of a process ends with it,
     however it ends."""
     while True:

@@ -12,7 +12,7 @@ import threading
 import time
 from dataclasses import dataclass
 from pathlib import Path
-from typing import Callable, Dict, List, NamedTuple, Optional, Sequence, Tuple
+from typing import Callable, NamedTuple, Sequence
 
 # Seconds that a process has to print its answer after it was asked to end.
 GRACE = 2.0
@@ -70,7 +70,7 @@ class Processes:
     def __init__(self) -> None:
         self._lock = threading.Lock()
         # Each with the signal that asks it to end.
-        self._running: Dict["subprocess.Popen[bytes]", int] = {}
+        self._running: dict["subprocess.Popen[bytes]", int] = {}
         self._stopped = False
 
     def run(
@@ -79,7 +79,7 @@ class Processes:
         seconds: float,
         folder: Path,
         ending: int = signal.SIGTERM,
-        hear: Optional[Callable[[bytes], None]] = None,
+        hear: Callable[[bytes], None] | None = None,
     ) -> Ended:
         """Runs a command for at most these seconds. `hear` gets its output while it comes. It is
         killed if this process is."""
@@ -97,7 +97,7 @@ class Processes:
         seconds: float,
         folder: Path,
         ending: int,
-        hear: Optional[Callable[[bytes], None]],
+        hear: Callable[[bytes], None] | None,
     ) -> Ended:
         with self._lock:
             if self._stopped:
@@ -197,7 +197,7 @@ def _is_executable(command: str) -> bool:
 
 
 @functools.lru_cache(maxsize=None)
-def _ending_with_this() -> Tuple[str, ...]:
+def _ending_with_this() -> tuple[str, ...]:
     """The words before a command that is to be killed when this process is; none if the system has
     no such `setpriv`."""
     words = ("setpriv", "--pdeathsig", "KILL")
@@ -250,14 +250,14 @@ def _output_of(
     process: "subprocess.Popen[bytes]",
     seconds: float,
     ending: int,
-    hear: Optional[Callable[[bytes], None]],
+    hear: Callable[[bytes], None] | None,
 ) -> _Output:
     """The output until its end, with the last bytes of standard error; at the limit the process is
     asked to end, and after the grace it is killed. A child that the process has left behind, and
     that keeps its output open, is not waited for.
     """
     assert process.stdout is not None and process.stderr is not None
-    parts: List[bytes] = []
+    parts: list[bytes] = []
     size = 0
     errors = b""
     timed_out = False

@@ -4,7 +4,7 @@ import contextlib
 import os
 import sys
 import time
-from typing import Callable, Optional, TextIO
+from typing import Callable, TextIO
 
 # The seconds between two lines that only have a higher bound.
 BOUND_SECONDS = 5.0
@@ -14,14 +14,14 @@ class Progress:
     """Prints each improvement: on one line that changes on a terminal, else on a line of its own.
     `named` changes the text of a warning, so that it names the user's files."""
 
-    def __init__(self, target: Optional[TextIO], named: Callable[[str], str] = str) -> None:
+    def __init__(self, target: TextIO | None, named: Callable[[str], str] = str) -> None:
         self._target = target
         self._named = named
         self._began = self._printed = time.monotonic()
         self._updates = target is not None and target.isatty()
         self._width = 0
-        self._penalty: Optional[int] = None
-        self._bound: Optional[int] = None
+        self._penalty: int | None = None
+        self._bound: int | None = None
         self._finder = ""
         # Whether the penalties of the search that runs have also points for changed shifts.
         self.counts_changes = False

@@ -6,18 +6,7 @@ import re
 import time
 import uuid
 from pathlib import Path
-from typing import (
-    Collection,
-    Dict,
-    Iterable,
-    Iterator,
-    List,
-    Mapping,
-    NamedTuple,
-    Optional,
-    Sequence,
-    Tuple,
-)
+from typing import Collection, Iterable, Iterator, Mapping, NamedTuple, Sequence
 
 from ..week.dates import DAY, Times
 from ..week.writing import write_own_text
@@ -44,9 +33,9 @@ def issue_now(before: Mapping[str, Collection[datetime.date]]) -> Issue:
     return Issue(int(time.time() - _FIRST_ISSUE), before)
 
 
-def shift_dates(view: RosterView, monday: datetime.date) -> Dict[str, List[datetime.date]]:
+def shift_dates(view: RosterView, monday: datetime.date) -> dict[str, list[datetime.date]]:
     """The dates of each nurse's shifts."""
-    dates: Dict[str, List[datetime.date]] = {}
+    dates: dict[str, list[datetime.date]] = {}
     for index, week in enumerate(view.weeks):
         for cell in week.cells:
             dates.setdefault(cell.nurse, []).append(monday + (7 * index + cell.day) * DAY)
@@ -108,7 +97,7 @@ def calendar(
     nurse: str,
     monday: datetime.date,
     times: Mapping[str, Times],
-    issue: Optional[Issue] = None,
+    issue: Issue | None = None,
 ) -> str:
     """The text of a nurse's calendar. One without shifts says so, since a calendar may not be
     empty; an issue of one cancels this, so that a later one has nothing to take back. Shifts of
@@ -117,7 +106,7 @@ def calendar(
     ward = allowed(view.name)
     stamp = [f"DTSTAMP:{_day(monday)}T000000Z", *([f"SEQUENCE:{issue.number}"] if issue else [])]
     lines = ["BEGIN:VCALENDAR", "VERSION:2.0", "PRODID:-//inrc2pb//inrc2pb-roster//EN"]
-    shifts: List[Tuple[datetime.date, int, ShownCell]] = [
+    shifts: list[tuple[datetime.date, int, ShownCell]] = [
         (monday + (7 * week + day) * DAY, index, cell)
         for week in range(len(view.weeks))
         for day in range(7)
@@ -143,9 +132,9 @@ def calendar(
     return "".join(f"{_folded(line)}\r\n" for line in [*lines, "END:VCALENDAR"])
 
 
-def file_names(nurses: Iterable[str]) -> Dict[str, str]:
+def file_names(nurses: Iterable[str]) -> dict[str, str]:
     """A file's name for each nurse, which each system takes; no two differ in case only."""
-    names: Dict[str, str] = {}
+    names: dict[str, str] = {}
     taken = set()
     for nurse in nurses:
         plain = re.sub(r'[/\\:*?"<>|\ufffd\t\n\r]|^\.', "_", allowed(nurse))[:60]
@@ -164,7 +153,7 @@ def write_calendars(
     folder: Path,
     monday: datetime.date,
     times: Mapping[str, Times],
-    issue: Optional[Issue] = None,
+    issue: Issue | None = None,
 ) -> None:
     """Writes a calendar for each nurse, also for those of older issues, to the folder, which is
     made if it does not exist."""

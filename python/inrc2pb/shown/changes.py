@@ -7,7 +7,7 @@ files.
 
 import collections
 from dataclasses import replace
-from typing import Iterable, Iterator, List, NamedTuple, Sequence, Tuple, Union
+from typing import Iterable, Iterator, NamedTuple, Sequence
 
 from ..week.faults import Misuse
 from ..week.records import DAYS, WEEK_DAYS, Cell, NurseDay, exchanged
@@ -19,7 +19,7 @@ from .roster_view import RosterView, ShownCell
 # ---- shifts
 
 
-def shifts_text(cells: Iterable[Union[Cell, ShownCell]], away: str = OFF) -> str:
+def shifts_text(cells: Iterable[Cell | ShownCell], away: str = OFF) -> str:
     """A nurse's day in words: her shift types and skills, or, if she has none, why she is away or
     that she is off."""
     return " and ".join(f"{cell.shift} {cell.skill}" for cell in cells) or away
@@ -43,7 +43,7 @@ class Change(NamedTuple):
     now_text: str
 
 
-def changes(old: RosterView, new: RosterView) -> List[Change]:
+def changes(old: RosterView, new: RosterView) -> list[Change]:
     """The days of nurses that differ, in the order of weeks, days and nurses."""
     differing = []
     for week in range(len(new.weeks)):
@@ -100,7 +100,7 @@ def sum_text(before: int, now: int, words: str) -> str:
 # ---- swaps
 
 
-def swapped(view: RosterView, swaps: Sequence[Tuple[str, str]]) -> RosterView:
+def swapped(view: RosterView, swaps: Sequence[tuple[str, str]]) -> RosterView:
     """The roster of one week after swaps in turn: two nurses and days, as `Chen Fri` and
     `Grace Fri`, get each other's cells. Raises Misuse if one of them is not in the roster."""
     if len(view.weeks) != 1:
@@ -117,7 +117,7 @@ def swapped(view: RosterView, swaps: Sequence[Tuple[str, str]]) -> RosterView:
     return replace(view, weeks=[replace(view.weeks[0], cells=cells)])
 
 
-def _quoted(pair: Tuple[str, str]) -> str:
+def _quoted(pair: tuple[str, str]) -> str:
     return " ".join(f'"{text}"' for text in pair)
 
 

@@ -2,7 +2,6 @@
 
 import html
 import re
-from typing import Optional
 
 # All but the characters that XML allows. A byte that is not UTF-8 is a surrogate.
 _NOT_IN_XML = re.compile("[^\t\n\r\x20-\ud7ff\ue000-\ufffd\U00010000-\U0010ffff]")
@@ -28,7 +27,7 @@ def joined(*parts: str) -> Markup:
     return Markup("".join(map(escaped, parts)))
 
 
-def element(tag: str, *inside: str, **attributes: Optional[str]) -> Markup:
+def element(tag: str, *inside: str, **attributes: str | None) -> Markup:
     """An element. In the names of attributes a line is written `_`, as in `aria_label`, and a last
     one is left out, as in `class_`. Attributes that are None are left out too."""
     words = [
@@ -45,6 +44,6 @@ def hidden(text: str) -> Markup:
     return element("span", text, class_="hidden")
 
 
-def shown(text: str, **attributes: Optional[str]) -> Markup:
+def shown(text: str, **attributes: str | None) -> Markup:
     """Text for eyes only: `hidden` says the same in words."""
     return element("span", text, aria_hidden="true", **attributes)

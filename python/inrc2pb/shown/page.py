@@ -1,6 +1,6 @@
 """A roster as one HTML page, to print or to read on a screen. It needs no network and no script."""
 
-from typing import Dict, Iterator, List, Optional
+from typing import Iterator
 
 from ..judging.rules import Charge, cost_by_rule
 from ..week.dates import date_text
@@ -137,7 +137,7 @@ def _roster(page: Content) -> Markup:
     return element("section", element("h1", title(page)), *lines, *roster.tables(), items)
 
 
-def section(heading: str, *inside: str, class_: Optional[str] = None) -> Markup:
+def section(heading: str, *inside: str, class_: str | None = None) -> Markup:
     """A part of the page."""
     return element("section", element("h2", heading), *inside, class_=class_)
 
@@ -151,7 +151,7 @@ def _charge(page: Content, week: int, charge: Charge) -> Markup:
     return element("li", f"{charge.cost} ({charge.rule}) {words}")
 
 
-def _foldable(name: str, charged: List[Charge], items: List[Markup]) -> Markup:
+def _foldable(name: str, charged: list[Charge], items: list[Markup]) -> Markup:
     """The charges of a nurse, or of the places. They are open, so that they are printed."""
     cost = sum(charge.cost for charge in charged)
     summary = element(
@@ -163,8 +163,8 @@ def _foldable(name: str, charged: List[Charge], items: List[Markup]) -> Markup:
 def charges_section(page: Content) -> Markup:
     """What the roster is charged, by nurse."""
     view = page.view
-    charged: Dict[Optional[str], List[Charge]] = {}
-    items: Dict[Optional[str], List[Markup]] = {}
+    charged: dict[str | None, list[Charge]] = {}
+    items: dict[str | None, list[Markup]] = {}
     for index, week in enumerate(view.weeks):
         for charge in week.charges or ():
             charged.setdefault(charge.nurse, []).append(charge)
@@ -187,7 +187,7 @@ def charges_section(page: Content) -> Markup:
     return section(heading, *lines, element("div", *folds, class_="folds"), class_="charges")
 
 
-def _details(page: Content) -> List[Markup]:
+def _details(page: Content) -> list[Markup]:
     """The sections below the roster. In print the first of them begins a page."""
     changed = changes_table(page)
     counted = totals_table(page)

@@ -3,7 +3,7 @@ rows and columns, and days."""
 
 import datetime
 from dataclasses import dataclass, field
-from typing import Callable, Collection, List, Mapping, Optional, Sequence, Tuple
+from typing import Callable, Collection, Mapping, Sequence
 
 from ..week.dates import DAY, Times, day_names
 from ..week.records import DAYS, week_name
@@ -33,18 +33,18 @@ class Content:
     """
 
     view: RosterView
-    old: Optional[RosterView] = None
-    monday: Optional[datetime.date] = None
+    old: RosterView | None = None
+    monday: datetime.date | None = None
     times: Mapping[str, Times] = field(default_factory=dict)
     only_table: bool = False
-    link: Optional[Callable[[int, str, int], str]] = None
+    link: Callable[[int, str, int], str] | None = None
     name: str = ""
     since: str = "the older roster"
     holidays: Collection[int] = ()
-    as_of: Optional[datetime.datetime] = None
+    as_of: datetime.datetime | None = None
     notes: Sequence[str] = ()
-    swapped: Collection[Tuple[int, str, int]] = ()
-    promised: Collection[Tuple[int, str, int]] = ()
+    swapped: Collection[tuple[int, str, int]] = ()
+    promised: Collection[tuple[int, str, int]] = ()
     plan: str = ""
     sums: Mapping[str, Sums] = field(default_factory=dict)
     all_sums: Mapping[str, Sums] = field(default_factory=dict)
@@ -86,7 +86,7 @@ class Content:
         return f"changed since {self.since}"
 
     @property
-    def changes(self) -> List[Change]:
+    def changes(self) -> list[Change]:
         """What differs from the older roster."""
         return changes(self.old, self.view) if self.old else []
 
@@ -95,7 +95,7 @@ def table(
     caption: str,
     heads: Sequence[Markup],
     rows: Sequence[Sequence[Markup]],
-    class_: Optional[str] = None,
+    class_: str | None = None,
 ) -> Markup:
     """A table with its caption, the rows of its head and its rows."""
     head = joined(*(element("tr", row) for row in heads))
@@ -109,7 +109,7 @@ def table(
     )
 
 
-def column(text: str, class_: Optional[str] = None) -> Markup:
+def column(text: str, class_: str | None = None) -> Markup:
     """The head of a column."""
     return element("th", text, scope="col", class_=class_)
 
@@ -119,17 +119,17 @@ def first(text: str) -> Markup:
     return element("th", text, scope="row")
 
 
-def weekend_class(day: int) -> Optional[str]:
+def weekend_class(day: int) -> str | None:
     """The class of the cells of Saturday and of Sunday."""
     return {5: "sat", 6: "sun"}.get(day)
 
 
-def groups_of_weeks(shown_weeks: int, size: int) -> List[range]:
+def groups_of_weeks(shown_weeks: int, size: int) -> list[range]:
     """The weeks that stand next to one another, at most so many."""
     return [range(first, min(first + size, shown_weeks)) for first in range(0, shown_weeks, size)]
 
 
-def day_heads(page: Content, weeks: Sequence[int], corner: str) -> List[Markup]:
+def day_heads(page: Content, weeks: Sequence[int], corner: str) -> list[Markup]:
     """The heads of the columns of some weeks: the weeks, if there are several, and their days."""
     days = []
     for week in weeks:

@@ -1,7 +1,7 @@
 """The tables of a page below its roster: totals, sums, wishes, changes and coverage. They mean the
 same without colors and without sight."""
 
-from typing import Dict, Iterator, Optional, Sequence
+from typing import Iterator, Sequence
 
 from ..week.words import readable, wish_text
 from .markup import Markup, element, hidden, joined, shown
@@ -25,7 +25,7 @@ def _left(total: Totals, is_last: bool) -> str:
     return f"{max(0, minimum)} to {maximum} left"
 
 
-def totals_table(page: Content) -> Optional[Markup]:
+def totals_table(page: Content) -> Markup | None:
     """The totals of each nurse, if they are known."""
     view = page.view
     by_nurse = totals(page.view)
@@ -72,7 +72,7 @@ def totals_table(page: Content) -> Optional[Markup]:
     return table(caption, [head], rows, "totals")
 
 
-def sums_table(page: Content) -> Optional[Markup]:
+def sums_table(page: Content) -> Markup | None:
     """What each nurse has in the period, and beside it in this and all earlier periods, if they are
     known."""
     if not page.sums:
@@ -104,7 +104,7 @@ def _wish(page: Content, wish: Wish) -> str:
     return f"{page.days(wish.week)[wish.request.day]} {wish_text(wish.request.shift)}"
 
 
-def wishes_table(page: Content) -> Optional[Markup]:
+def wishes_table(page: Content) -> Markup | None:
     """The wishes of each nurse who has some."""
     rows = []
     for nurse, total in (totals(page.view) or {}).items():
@@ -121,7 +121,7 @@ def wishes_table(page: Content) -> Optional[Markup]:
     )
 
 
-def changes_table(page: Content) -> Optional[Markup]:
+def changes_table(page: Content) -> Markup | None:
     """The changes since the older roster."""
     rows = []
     for change in page.changes:
@@ -172,7 +172,7 @@ def coverage_tables(page: Content) -> Iterator[Markup]:
     """The nurses at each place beside those that it needs, for each two weeks."""
     known = [week.week and coverage(week.week, week.cells) for week in page.view.weeks]
     for weeks in groups_of_weeks(len(known), WEEKS_OF_COVERAGE):
-        places: Dict[Sequence[str], Dict[int, Sequence[Covered]]] = {}
+        places: dict[Sequence[str], dict[int, Sequence[Covered]]] = {}
         for week in weeks:
             for shift, skill, days in known[week] or ():
                 places.setdefault((shift, skill), {})[week] = days

@@ -2,7 +2,7 @@
 
 import re
 from pathlib import Path
-from typing import Dict, Iterable, List, NamedTuple, Optional, Sequence
+from typing import Iterable, NamedTuple, Sequence
 
 from ..week.faults import Misuse, printable
 from ..week.slots import text_of
@@ -20,13 +20,13 @@ class Result(NamedTuple):
     roster costs less, and the seconds of the run, if they are known."""
 
     name: str
-    penalty: Optional[int]
-    bound: Optional[int]
+    penalty: int | None
+    bound: int | None
     is_proved: bool
-    seconds: Optional[float] = None
+    seconds: float | None = None
 
 
-def result_of(name: str, text: str, seconds: Optional[float] = None) -> Result:
+def result_of(name: str, text: str, seconds: float | None = None) -> Result:
     """The result in the text of a report; the last numbers of each kind count."""
     penalties = _PENALTY.findall(text)
     bounds = _BOUND.findall(text)
@@ -34,7 +34,7 @@ def result_of(name: str, text: str, seconds: Optional[float] = None) -> Result:
     return Result(name, penalty, bound, _PROVED.search(text) is not None, seconds)
 
 
-def read_results(reports: Sequence[Path], log: Optional[Path]) -> List[Result]:
+def read_results(reports: Sequence[Path], log: Path | None) -> list[Result]:
     """The results of reports. `log` is the log of GNU parallel that has their seconds, in the order
     of the reports' names."""
     seconds = _seconds_of(log) if log else {}
@@ -47,7 +47,7 @@ def _number_of(report: Path) -> str:
     return match[1].lstrip("0") if match else ""
 
 
-def _seconds_of(log: Path) -> Dict[str, float]:
+def _seconds_of(log: Path) -> dict[str, float]:
     """The seconds of each job by its number, in a file of `parallel --joblog`."""
     head, *lines = [line.split("\t") for line in text_of(log).splitlines()] or [[""]]
     if head[:1] != ["Seq"]:
@@ -60,7 +60,7 @@ def _seconds_of(log: Path) -> Dict[str, float]:
         raise Misuse(f"{log} has a line that parallel did not write") from None
 
 
-def table(results: Iterable[Result]) -> List[str]:
+def table(results: Iterable[Result]) -> list[str]:
     """The lines of the table: one for each report, and one for all."""
     known = list(results)
     rows = [_HEAD, *map(_row, known)]

@@ -3,7 +3,7 @@ weeks."""
 
 from dataclasses import dataclass, field, replace
 from pathlib import Path
-from typing import Dict, Iterable, Iterator, List, Mapping, Optional, Sequence
+from typing import Iterable, Iterator, Mapping, Sequence
 
 from ..judging.breaches import other_week
 from ..judging.limits import read_given, with_given
@@ -26,13 +26,13 @@ class RosterFiles:
     """
 
     rosters: Sequence[Path]
-    scenario: Optional[Path] = None
+    scenario: Path | None = None
     histories: Sequence[Path] = ()
     weeks: Sequence[Path] = ()
     fixes: Mapping[int, Path] = field(default_factory=dict)
     early: bool = False
-    given: Optional[Path] = None
-    reasons: Optional[Path] = None
+    given: Path | None = None
+    reasons: Path | None = None
 
 
 def read_view(files: RosterFiles) -> RosterView:
@@ -117,7 +117,7 @@ def read_old(files: RosterFiles, rosters: Sequence[Path]) -> RosterView:
     return replace(read_view(replace(files, rosters=rosters)), warnings=())
 
 
-def _each_once(names: Iterable[str]) -> List[str]:
+def _each_once(names: Iterable[str]) -> list[str]:
     """The names in the order in which they first occur."""
     return list(dict.fromkeys(names))
 
@@ -147,7 +147,7 @@ def _check_numbers(files: RosterFiles) -> None:
 
 def _histories(
     files: RosterFiles, scenario: Scenario, solutions: Sequence[Solution]
-) -> List[History]:
+) -> list[History]:
     """The history of each week: as given, or computed from the first one and the rosters."""
     histories = [read_history(path, scenario) for path in files.histories]
     for path, history in zip(files.histories, histories):
@@ -167,8 +167,8 @@ def _histories(
 
 
 def _other_weeks(
-    paths: Sequence[Optional[Path]],
-    texts: Dict[Path, str],
+    paths: Sequence[Path | None],
+    texts: dict[Path, str],
     scenario: Scenario,
     histories: Sequence[History],
 ) -> Iterator[str]:

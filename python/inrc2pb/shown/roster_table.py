@@ -1,7 +1,7 @@
 """The table of the roster on a page, and the legend of its signs. It means the same without colors
 and without sight."""
 
-from typing import Dict, Iterator, List, Mapping, Sequence
+from typing import Iterator, Mapping, Sequence
 
 from ..week.words import OFF, readable
 from .changes import shifts_text
@@ -51,7 +51,7 @@ PROMISED = "\u2713"
 PROMISED_MEANING = "promised: swaps and later plans keep it"
 
 
-def _small(names: Dict[str, str]) -> Dict[str, str]:
+def _small(names: dict[str, str]) -> dict[str, str]:
     """Short names of skills in small letters, so that none looks like a shift type, if they still
     differ."""
     small = {name: short.lower() for name, short in names.items()}
@@ -103,7 +103,7 @@ class RosterTable:
                 ("roster" if self.single else "roster many") + room,
             )
 
-    def _sums(self) -> List[str]:
+    def _sums(self) -> list[str]:
         """The heads of the columns with sums: short ones of those of the period, or names of shift
         types, as in the cells, and that of weekends."""
         if self.page.sums:
@@ -185,7 +185,7 @@ class RosterTable:
             short = joined(short, element("small", self.skills[cell.skill]))
         return joined(shown(short), hidden(f"{shift} {skill}"), *signs)
 
-    def legend(self) -> List[str]:
+    def legend(self) -> list[str]:
         """The meaning of short names, the times of shift types, and the marks."""
         lines = []
         for shift in self.view.shifts:

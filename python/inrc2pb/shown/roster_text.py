@@ -1,7 +1,7 @@
 """A roster as a table of text, and as rows of a spreadsheet."""
 
 import unicodedata
-from typing import Dict, Iterator, List, Sequence
+from typing import Iterator, Sequence
 
 from ..week.faults import not_obeyed
 from ..week.records import DAYS
@@ -47,7 +47,7 @@ def _filled(text: str, width: int) -> str:
     return text + " " * (width - columns(text))
 
 
-def cuts(names: Sequence[str], minimum: int) -> Dict[str, str]:
+def cuts(names: Sequence[str], minimum: int) -> dict[str, str]:
     """Each name cut to the same length: the shortest, from `minimum` on, at which all of them
     differ."""
     length = minimum
@@ -56,7 +56,7 @@ def cuts(names: Sequence[str], minimum: int) -> Dict[str, str]:
     return {name: name[:length] for name in names}
 
 
-def abbreviations(*shortened: Dict[str, str]) -> List[str]:
+def abbreviations(*shortened: dict[str, str]) -> list[str]:
     """A line with the meaning of each name that was cut, if one was."""
     cut = dict.fromkeys(
         f"{short} = {name}" for names in shortened for name, short in names.items() if short != name
@@ -103,10 +103,10 @@ class TextTable:
     def _harmless(self, text: str) -> str:
         return not_obeyed(text) if self.colored else text
 
-    def _cuts(self, names: Sequence[str], minimum: int) -> Dict[str, str]:
+    def _cuts(self, names: Sequence[str], minimum: int) -> dict[str, str]:
         return {name: self._harmless(cut) for name, cut in cuts(names, minimum).items()}
 
-    def _right(self) -> List[List[str]]:
+    def _right(self) -> list[list[str]]:
         """The columns right of the days, each with its head and a text for each nurse: totals and
         costs, if they are known."""
         rows = []
@@ -159,7 +159,7 @@ class TextTable:
             else padded
         )
 
-    def head(self) -> List[str]:
+    def head(self) -> list[str]:
         """The title, and the names of the columns."""
         days = _with_weekend_apart([f"{day[: self.width]:{self.width}}" for day in DAYS], self.gap)
         between = "  ||  "
@@ -173,7 +173,7 @@ class TextTable:
             "  ".join([" " * self.first, named, *(column[0] for column in self.right)]).rstrip(),
         ]
 
-    def lines(self) -> List[str]:
+    def lines(self) -> list[str]:
         """The whole table."""
         view = self.view
         lines = list(map(self._harmless, self.head()))
@@ -206,7 +206,7 @@ class TextTable:
         return [*lines, "", *map(self._harmless, below)] if below else lines
 
 
-def spreadsheet(view: RosterView) -> Iterator[List[object]]:
+def spreadsheet(view: RosterView) -> Iterator[list[object]]:
     """Rows of a spreadsheet: nurses by days, then the cost and the rules that charge it, then the
     totals."""
     single = len(view.weeks) == 1
@@ -235,7 +235,7 @@ def spreadsheet(view: RosterView) -> Iterator[List[object]]:
             " + ".join(" ".join([cell.shift, cell.skill, *cell.marks]) for cell in cells)
             for cells in of_days
         ]
-        row: List[object] = [nurse, *shown]
+        row: list[object] = [nurse, *shown]
         if view.has_costs:
             row += [sum(view.costs[nurse].values()), costs_text(view.costs[nurse])]
         if counted:

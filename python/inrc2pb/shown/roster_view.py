@@ -4,19 +4,7 @@ below."""
 import itertools
 from dataclasses import dataclass, field
 from functools import cached_property
-from typing import (
-    Callable,
-    Dict,
-    FrozenSet,
-    Iterable,
-    Iterator,
-    List,
-    Mapping,
-    NamedTuple,
-    Optional,
-    Sequence,
-    Tuple,
-)
+from typing import Callable, Iterable, Iterator, Mapping, NamedTuple, Sequence
 
 from ..judging import rules
 from ..judging.absences import absences_of, is_broken_by
@@ -52,12 +40,12 @@ class WeekView:
 
     number: int
     cells: Sequence[Cell]
-    data: Optional[WeekData] = None
-    week: Optional[Week] = None
+    data: WeekData | None = None
+    week: Week | None = None
     held: Sequence[Cell] = ()
     early: bool = False
     # Why nurses are away, as far as it is known.
-    reasons: Mapping[Tuple[str, int], str] = field(default_factory=dict)
+    reasons: Mapping[tuple[str, int], str] = field(default_factory=dict)
     named: str = ""
 
     @property
@@ -72,16 +60,16 @@ class WeekView:
         return f"{HELD if cell in self._held else ''}{wish}"
 
     @cached_property
-    def _held(self) -> FrozenSet[Cell]:
+    def _held(self) -> frozenset[Cell]:
         return frozenset(self.held)
 
     @cached_property
-    def absences(self) -> FrozenSet[Absence]:
+    def absences(self) -> frozenset[Absence]:
         """The absences of the week's file."""
         return absences_of(self.data) if self.data else frozenset()
 
     @cached_property
-    def _asked(self) -> FrozenSet[object]:
+    def _asked(self) -> frozenset[object]:
         """The nurses, days and shift types of the requests; None is any shift type."""
         return (
             frozenset((request.nurse, request.day, request.shift) for request in self.data.requests)
@@ -97,12 +85,12 @@ class WeekView:
         ) in self._asked
 
     @cached_property
-    def breaches(self) -> List[Breach]:
+    def breaches(self) -> list[Breach]:
         """The hard rules that the roster breaks, if the week's files are known."""
         return breaches(self.week, self.cells, self.held) if self.week else []
 
     @cached_property
-    def charges(self) -> Optional[List[rules.Charge]]:
+    def charges(self) -> list[rules.Charge] | None:
         """What the soft rules charge; None if the week's files are not known, or the roster breaks
         a hard rule."""
         return (
@@ -112,7 +100,7 @@ class WeekView:
         )
 
     @cached_property
-    def above(self) -> List[rules.Charge]:
+    def above(self) -> list[rules.Charge]:
         """What the roster has above limits that hold, if the week's files are known."""
         return (
             exceeded(self.week, self.week.data.limits, self.cells)
@@ -133,12 +121,12 @@ class WeekView:
         return charge.weight * min(charge.times, away)
 
     @property
-    def penalty(self) -> Optional[int]:
+    def penalty(self) -> int | None:
         """The penalty of the roster, if it has one."""
         return None if self.charges is None else sum(charge.cost for charge in self.charges)
 
     @property
-    def notes(self) -> List[str]:
+    def notes(self) -> list[str]:
         """Lines on held rows that are missing, and on the cost."""
         cells = set(self.cells)
         lines = [
@@ -161,7 +149,7 @@ class WeekView:
         ]
 
     @property
-    def misfilled(self) -> List[str]:
+    def misfilled(self) -> list[str]:
         """A line for each day with places that have too few nurses, and then for each with too
         many."""
         return (
@@ -186,8 +174,8 @@ class RosterView:
     credit: Mapping[str, int] = field(default_factory=dict)
 
     @cached_property
-    def _cells(self) -> Dict[object, List[ShownCell]]:
-        cells: Dict[object, List[ShownCell]] = {}
+    def _cells(self) -> dict[object, list[ShownCell]]:
+        cells: dict[object, list[ShownCell]] = {}
         for index, week in enumerate(self.weeks):
             for row in week.cells:
                 cells.setdefault((index, row.nurse, row.day), []).append(
@@ -213,7 +201,7 @@ class RosterView:
             return f"weeks {numbers[0]} to {numbers[-1]}"
         return f"weeks {', '.join(map(str, numbers))}"
 
-    def cells(self, week: int, nurse: str, day: int) -> List[ShownCell]:
+    def cells(self, week: int, nurse: str, day: int) -> list[ShownCell]:
         """A nurse's cells on a day; weeks are counted from 0 in the table."""
         return self._cells.get((week, nurse, day), [])
 
@@ -240,7 +228,7 @@ class RosterView:
             )
 
     @cached_property
-    def costs(self) -> Dict[str, Dict[str, int]]:
+    def costs(self) -> dict[str, dict[str, int]]:
         """The cost of each nurse in all weeks, by rule."""
         paid = {nurse: dict.fromkeys(SOFT_RULES, 0) for nurse in self.nurses}
         for charge in (charge for week in self.weeks for charge in week.charges or ()):
@@ -251,7 +239,7 @@ class RosterView:
             for nurse, by_rule in paid.items()
         }
 
-    def legend(self) -> List[str]:
+    def legend(self) -> list[str]:
         """The meaning of the marks, and notes on the whole roster."""
         marks = {mark for week in self.weeks for row in week.cells for mark in week.marks(row)}
         meanings = [f"{mark} = {MEANINGS[mark]}" for mark in sorted(marks, reverse=True)]
@@ -263,7 +251,7 @@ class RosterView:
         return any(AWAY in week.marks(row) for week in self.weeks for row in week.cells)
 
     @property
-    def penalty(self) -> Optional[int]:
+    def penalty(self) -> int | None:
         """The penalty of all weeks together, if each has one."""
         penalties = [week.penalty for week in self.weeks if week.penalty is not None]
         return sum(penalties) if len(penalties) == len(self.weeks) else None
@@ -272,11 +260,11 @@ class RosterView:
         if len(self.weeks) > 1 and self.penalty is not None:
             yield f"all {len(self.weeks)} weeks: penalty {self.penalty}"
 
-    def misfilled(self) -> List[str]:
+    def misfilled(self) -> list[str]:
         """The lines of each week on places with too few or too many nurses."""
         return self._with_week(lambda week: week.misfilled)
 
-    def _with_week(self, lines_of: Callable[[WeekView], List[str]]) -> List[str]:
+    def _with_week(self, lines_of: Callable[[WeekView], list[str]]) -> list[str]:
         return [f"{self.prefix(week)}{line}" for week in self.weeks for line in lines_of(week)]
 
     def prefix(self, week: WeekView) -> str:
@@ -297,7 +285,7 @@ class Covered(NamedTuple):
         return max(self.minimum, self.optimal)
 
 
-def coverage(week: Week, cells: Iterable[Cell]) -> List[Tuple[str, str, List[Covered]]]:
+def coverage(week: Week, cells: Iterable[Cell]) -> list[tuple[str, str, list[Covered]]]:
     """The shift types and skills that are needed or filled, each with its seven days."""
     number = rules.numbers(cells)
     covered = []

@@ -3,7 +3,7 @@ each type, and wishes."""
 
 import collections
 import datetime
-from typing import Collection, Dict, Iterable, List, Mapping, NamedTuple, Optional, Sequence, Tuple
+from typing import Collection, Iterable, Mapping, NamedTuple, Sequence
 
 from ..judging.absences import wishes_of
 from ..judging.rules import SATURDAY, SUNDAY
@@ -29,7 +29,7 @@ class Totals(NamedTuple):
     contract: Limits
     weekends: int
     max_weekends: int
-    by_shift: Dict[str, int]
+    by_shift: dict[str, int]
     wishes: Sequence[Wish]
     away: int = 0
 
@@ -38,7 +38,7 @@ class Totals(NamedTuple):
         """How many wishes are granted."""
         return sum(wish.granted for wish in self.wishes)
 
-    def texts(self) -> Tuple[str, str, str]:
+    def texts(self) -> tuple[str, str, str]:
         """The shifts, the weekends and the wishes with their limits, as `5/17-21`, `1/2` and
         `2/3`."""
         contract = f"{self.contract.minimum}-{self.contract.maximum}"
@@ -56,17 +56,17 @@ LEGEND = (
 )
 
 
-def wishes_by_nurse(week: WeekView, index: int) -> Dict[str, List[Wish]]:
+def wishes_by_nurse(week: WeekView, index: int) -> dict[str, list[Wish]]:
     """The wishes of a week, each once."""
     works = {(row.nurse, row.day, shift) for row in week.cells for shift in (row.shift, None)}
-    wishes: Dict[str, List[Wish]] = {}
+    wishes: dict[str, list[Wish]] = {}
     for request in dict.fromkeys(wishes_of(week.data)) if week.data else ():
         refused = (request.nurse, request.day, request.shift) in works
         wishes.setdefault(request.nurse, []).append(Wish(index, request, not refused))
     return wishes
 
 
-def totals(view: RosterView) -> Optional[Dict[str, Totals]]:
+def totals(view: RosterView) -> dict[str, Totals] | None:
     """The totals of each nurse, if the files of the last week are known."""
     last = view.weeks[-1]
     if not last.week:
@@ -75,7 +75,7 @@ def totals(view: RosterView) -> Optional[Dict[str, Totals]]:
     number = collections.Counter(
         (row.nurse, row.shift) for week in view.weeks for row in week.cells
     )
-    days: Dict[str, List[int]] = {}
+    days: dict[str, list[int]] = {}
     for row in last.cells:
         days.setdefault(row.nurse, []).append(row.day)
     by_nurse = {}
@@ -95,7 +95,7 @@ def totals(view: RosterView) -> Optional[Dict[str, Totals]]:
     return by_nurse
 
 
-def worked(view: RosterView) -> Dict[str, List[int]]:
+def worked(view: RosterView) -> dict[str, list[int]]:
     """The shifts of each type of each nurse in the weeks of a table, and her weekends with work."""
     number = collections.Counter(
         (row.nurse, row.shift) for week in view.weeks for row in week.cells
@@ -136,7 +136,7 @@ class Sums(NamedTuple):
             granted=self.granted + other.granted,
         )
 
-    def texts(self, has_times: bool) -> List[str]:
+    def texts(self, has_times: bool) -> list[str]:
         """The numbers as they stand in a table, hours rounded."""
         hours = [f"{self.hours / datetime.timedelta(hours=1):.0f}"] if has_times else []
         return [
@@ -148,7 +148,7 @@ class Sums(NamedTuple):
         ]
 
 
-def sum_heads(has_times: bool) -> List[str]:
+def sum_heads(has_times: bool) -> list[str]:
     """The heads of these numbers."""
     return ["shifts", *(["hours"] if has_times else []), "nights", "weekends", "wishes granted"]
 
@@ -159,13 +159,13 @@ def sums_of(
     wishes: Iterable[Request],
     nights: Collection[str],
     times: Mapping[str, Times],
-) -> Dict[str, Sums]:
+) -> dict[str, Sums]:
     """The sums of nurses with these shifts and wishes of a period, both with its days; `nights` has
     the shift types of the night."""
-    rows: Dict[str, Dict[int, str]] = {nurse: {} for nurse in nurses}
+    rows: dict[str, dict[int, str]] = {nurse: {} for nurse in nurses}
     for cell in cells:
         rows.setdefault(cell.nurse, {})[cell.day] = cell.shift
-    asked: Dict[str, List[Request]] = {}
+    asked: dict[str, list[Request]] = {}
     for wish in dict.fromkeys(wishes):
         asked.setdefault(wish.nurse, []).append(wish)
     sums = {}

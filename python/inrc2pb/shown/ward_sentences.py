@@ -1,7 +1,7 @@
 """A ward and its history in sentences, to be read by whoever knows the ward. Nurses with the same
 numbers share a sentence."""
 
-from typing import Dict, Iterable, Iterator, List, Optional, Tuple, TypeVar
+from typing import Iterable, Iterator, TypeVar
 
 from ..judging.demand import Paid, asked_shifts, supplied_shifts
 from ..judging.leave import Counted, PartContract, part_contract
@@ -14,9 +14,9 @@ _Key = TypeVar("_Key")
 _Value = TypeVar("_Value")
 
 
-def together(pairs: Iterable[Tuple[_Key, _Value]]) -> Dict[_Key, List[_Value]]:
+def together(pairs: Iterable[tuple[_Key, _Value]]) -> dict[_Key, list[_Value]]:
     """The values of each key, in their order."""
-    values_of: Dict[_Key, List[_Value]] = {}
+    values_of: dict[_Key, list[_Value]] = {}
     for key, value in pairs:
         values_of.setdefault(key, []).append(value)
     return values_of
@@ -52,12 +52,12 @@ def scenario_sentences(scenario: Scenario) -> Iterator[str]:
         yield f"{skill}: {joined(skilled) if skilled else 'nobody'}."
 
 
-def _part(scenario: Scenario, nurse: str) -> Optional[PartContract]:
+def _part(scenario: Scenario, nurse: str) -> PartContract | None:
     """What the contract of a nurse is a part of, if it is one."""
     return part_contract(scenario.nurses[nurse].contract, scenario.contracts)
 
 
-def _owners(scenario: Scenario) -> Dict[str, List[str]]:
+def _owners(scenario: Scenario) -> dict[str, list[str]]:
     """The nurses of each contract that is no part of another one, also those for whom a part of it
     counts."""
     wholes = [name for name in scenario.contracts if not part_contract(name, scenario.contracts)]
@@ -219,7 +219,7 @@ def _total_text(shifts: int, weekends: int) -> str:
 
 
 def supply_text(
-    scenario: Scenario, history: Optional[History], data: WeekData, paid: Paid = ()
+    scenario: Scenario, history: History | None, data: WeekData, paid: Paid = ()
 ) -> str:
     """The shifts that a week asks for, and those that the contracts supply. `paid` has days away
     that count as work."""

@@ -1,7 +1,7 @@
 """Some weeks in sentences: the numbers of nurses, absences with their reasons, wishes and held
 shifts. Equal days share a sentence."""
 
-from typing import Callable, Collection, Iterable, Iterator, Mapping, NamedTuple, Sequence, Tuple
+from typing import Callable, Collection, Iterable, Iterator, Mapping, NamedTuple, Sequence
 
 from ..judging.absences import absences_of, wishes_of
 from ..week.records import DAYS, WEEK_DAYS, Cell, Place, Requirement, Scenario, WeekData
@@ -30,7 +30,7 @@ class DescribedWeek(NamedTuple):
 
     number: int
     data: WeekData
-    reasons: Mapping[Tuple[str, int], str] = {}
+    reasons: Mapping[tuple[str, int], str] = {}
     held: Sequence[Cell] = ()
     name: str = ""
 
@@ -95,7 +95,7 @@ def held_sentences(held: Iterable[Cell], days_text: DaysText = days_of_week) -> 
     )
 
 
-def _sentence(label: str, pairs: Iterable[Tuple[str, int]], days_text: DaysText) -> Iterator[str]:
+def _sentence(label: str, pairs: Iterable[tuple[str, int]], days_text: DaysText) -> Iterator[str]:
     """A sentence on who has what on which days, if anybody has; those with the same days are
     joined."""
     alike = together((days_text(days), name) for name, days in together(pairs).items())
@@ -173,7 +173,7 @@ def _other_numbers(numbers: Sequence[Requirement], usual: Sequence[Requirement])
     )
 
 
-def _numbers_by_day(numbers: Iterable[Tuple[int, Requirement]]) -> str:
+def _numbers_by_day(numbers: Iterable[tuple[int, Requirement]]) -> str:
     """The numbers of days; days with the same ones are joined."""
     alike = together((number, day) for day, number in numbers)
     return "; ".join(f"{_needed(number)} on {days_of_week(days)}" for number, days in alike.items())

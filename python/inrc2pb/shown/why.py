@@ -1,7 +1,7 @@
 """Why rosters cost what they cost: each charge and each broken rule in words, and the charges that
 a change saves or adds."""
 
-from typing import Dict, Iterator, List, Sequence, Tuple
+from typing import Iterator, Sequence
 
 from ..judging.absences import MARK
 from ..judging.limits import limits_in_words
@@ -13,7 +13,7 @@ from .changes import Charged, changed_lines, charge_lines, sum_text
 from .roster_view import RosterView
 
 
-def _charges(view: RosterView) -> List[Tuple[str, Charge]]:
+def _charges(view: RosterView) -> list[tuple[str, Charge]]:
     """The charges of all weeks, each with the beginning of its line."""
     return [(view.prefix(week), charge) for week in view.weeks for charge in week.charges or ()]
 
@@ -71,7 +71,7 @@ def change_lines(old: RosterView, new: RosterView) -> Iterator[str]:
     )
 
 
-def _charged(view: RosterView) -> List[Charged]:
+def _charged(view: RosterView) -> list[Charged]:
     """The cost of each charge, and its rule and the charge in words."""
     return [
         Charged(charge.cost, f"{charge.rule}  {week}{in_words(charge)}")
@@ -79,7 +79,7 @@ def _charged(view: RosterView) -> List[Charged]:
     ]
 
 
-def days_text(days: Tuple[int, int], names: Sequence[str] = DAYS) -> str:
+def days_text(days: tuple[int, int], names: Sequence[str] = DAYS) -> str:
     """The first and the last day, as `Mon to Thu`."""
     first, last = days
     return names[first] if first == last else f"{names[first]} to {names[last]}"
@@ -142,6 +142,6 @@ def in_words(charge: Charge, with_nurse: bool = True, names: Sequence[str] = DAY
     return f"{named}: {reason(charge, monday)}" if named else reason(charge, monday)
 
 
-def costs_text(costs: Dict[str, int]) -> str:
+def costs_text(costs: dict[str, int]) -> str:
     """The rules and what they charge, as `S2 30 + S4 10`."""
     return " + ".join(f"{rule} {cost}" for rule, cost in costs.items() if cost)

@@ -4,7 +4,7 @@ of shift types."""
 import datetime
 import itertools
 import re
-from typing import Collection, Dict, Iterator, NamedTuple, Optional, Sequence
+from typing import Collection, Iterator, NamedTuple, Sequence
 
 from .faults import Misuse
 from .records import DAYS, WEEK_DAYS, week_name
@@ -50,7 +50,7 @@ class WrittenDate(NamedTuple):
     """A date as it is written: its text, and its year, if it has one, month and day."""
 
     text: str
-    year: Optional[int]
+    year: int | None
     month: int
     day: int
 
@@ -68,7 +68,7 @@ def written_dates(text: str) -> Iterator[WrittenDate]:
         yield WrittenDate(match[0], int(year) if year else None, int(month), int(day))
 
 
-def written_date(text: str) -> Optional[WrittenDate]:
+def written_date(text: str) -> WrittenDate | None:
     """The date that the whole text is, if it is one."""
     return next((date for date in written_dates(text) if date.text == text), None)
 
@@ -94,7 +94,7 @@ def read_monday(text: str, weeks: int) -> datetime.date:
     return date
 
 
-def day_names(monday: Optional[datetime.date], week: int) -> Sequence[str]:
+def day_names(monday: datetime.date | None, week: int) -> Sequence[str]:
     """The days of a week, counted from 0, as `Mon 30 Nov`, or as `Mon` if the date is not known."""
     if monday is None:
         return DAYS
@@ -103,11 +103,11 @@ def day_names(monday: Optional[datetime.date], week: int) -> Sequence[str]:
     ]
 
 
-def read_times(texts: Sequence[str], shifts: Collection[str]) -> Dict[str, Times]:
+def read_times(texts: Sequence[str], shifts: Collection[str]) -> dict[str, Times]:
     """The times of all shift types or of none, each given as `Early=06:00-14:15`. A shift that ends
     before it begins ends a day later. Raises Misuse if a text has no times, or only some shift
     types have them."""
-    by_shift: Dict[str, Times] = {}
+    by_shift: dict[str, Times] = {}
     for text in texts:
         shift, is_given, times = text.rpartition("=")
         if not is_given or not _TIMES.fullmatch(times):
@@ -187,7 +187,7 @@ class PlanDays(NamedTuple):
     """The days of some weeks, counted from 0; in words weeks count from 1, with the calendar week
     beside it. The date of the first Monday is None if the sheet has no dates."""
 
-    monday: Optional[datetime.date]
+    monday: datetime.date | None
     weeks: int
 
     @property
@@ -195,7 +195,7 @@ class PlanDays(NamedTuple):
         """The number of days."""
         return WEEK_DAYS * self.weeks
 
-    def first_of(self, period: "PlanDays") -> Optional[int]:
+    def first_of(self, period: "PlanDays") -> int | None:
         """The first day of a period whose days are all among these."""
         if self.monday is None or period.monday is None:
             return None
@@ -235,7 +235,7 @@ class PlanDays(NamedTuple):
             )
         )
 
-    def week_number(self, text: str) -> Optional[int]:
+    def week_number(self, text: str) -> int | None:
         """The week that a text names: `2` is the second one of the plan, and `CW 49`, or `49` in a
         plan of fewer weeks, a calendar week. None if the plan does not have it, or it is none."""
         calendar = _CALENDAR_WEEK.fullmatch(text)

@@ -5,7 +5,7 @@ The layout of docs/formats.md has them as `HOLDS fact` or `NOT fact`. A week's n
 from 1.
 """
 
-from typing import Callable, Dict, Iterable, List, NamedTuple, Optional, Sequence, Tuple, Union
+from typing import Callable, Iterable, NamedTuple, Sequence
 
 from .records import DAYS, NONE, Place, Scenario
 from .slots import PathLike, Slots
@@ -28,7 +28,7 @@ class Choice(NamedTuple):
     week: int
     nurse: str
     day: int
-    shift: Optional[str]
+    shift: str | None
 
 
 class AtPlace(NamedTuple):
@@ -43,7 +43,7 @@ class Charged(NamedTuple):
     """The charges of this kind, of one nurse or of all (None), are at most this number."""
 
     kind: str
-    nurse: Optional[str]
+    nurse: str | None
     most: int
 
 
@@ -51,7 +51,7 @@ class Even(NamedTuple):
     """The charges of SHIFT_RUNS of all nurses are an even number."""
 
 
-Fact = Union[Choice, AtPlace, Charged, Even]
+Fact = Choice | AtPlace | Charged | Even
 
 
 class Claim(NamedTuple):
@@ -85,14 +85,14 @@ def facts_text(name: str, claims: Sequence[Claim]) -> str:
 
 
 def read_facts(
-    path: PathLike, scenario: Scenario, weeks: int = MAX_WEEKS, text: Optional[str] = None
-) -> Tuple[Claim, ...]:
+    path: PathLike, scenario: Scenario, weeks: int = MAX_WEEKS, text: str | None = None
+) -> tuple[Claim, ...]:
     """Reads a file of facts about a plan of so many weeks of this ward."""
     slots = Slots(path, text)
     slots.words("FACTS")
     slots.any_word("the scenario's name")
     slots.words("ROWS", "=")
-    claims: List[Claim] = []
+    claims: list[Claim] = []
     for _ in range(slots.number("the number of facts")):
         holds = slots.known_name("word", (HOLDS, NOT), "a row").text == HOLDS
         claims.append(Claim(read_fact(slots, scenario, weeks), holds))
@@ -130,7 +130,7 @@ def _charged(slots: Slots, scenario: Scenario, _weeks: int) -> Charged:
     return Charged(kind, nurse, slots.number("the most charges"))
 
 
-_READERS: Dict[str, Callable[[Slots, Scenario, int], Fact]] = {
+_READERS: dict[str, Callable[[Slots, Scenario, int], Fact]] = {
     "CHOICE": _choice,
     "PLACE": _place,
     "CHARGES": _charged,
@@ -150,10 +150,10 @@ def _day(slots: Slots) -> int:
     return DAYS.index(slots.known_name("day", DAYS, "the week").text)
 
 
-def of_weeks(claims: Iterable[Claim], first: int, count: int) -> Tuple[Claim, ...]:
+def of_weeks(claims: Iterable[Claim], first: int, count: int) -> tuple[Claim, ...]:
     """The claims about `count` weeks of a period, the first of which has this number from 0, with
     weeks counted from 1 in them."""
-    claims_of_weeks: List[Claim] = []
+    claims_of_weeks: list[Claim] = []
     for fact, holds in claims:
         if isinstance(fact, (Choice, AtPlace)):
             if not 1 <= fact.week - first <= count:
@@ -172,7 +172,7 @@ class DayAway(NamedTuple):
 
 
 # The word for each day away, such as `leave`.
-Reasons = Dict[DayAway, str]
+Reasons = dict[DayAway, str]
 
 
 def reasons_text(name: str, reasons: Reasons) -> str:
@@ -183,7 +183,7 @@ def reasons_text(name: str, reasons: Reasons) -> str:
     return f"REASONS\n{name}\n\nROWS = {len(reasons)}\n{rows}"
 
 
-def read_reasons(path: PathLike, scenario: Scenario, text: Optional[str] = None) -> Reasons:
+def read_reasons(path: PathLike, scenario: Scenario, text: str | None = None) -> Reasons:
     """Reads a file of reasons of this ward."""
     slots = Slots(path, text)
     slots.words("REASONS")

@@ -4,7 +4,7 @@ import contextlib
 import errno
 import re
 from pathlib import Path
-from typing import Callable, Iterator, List, Optional, Sequence, Type, TypeVar, Union
+from typing import Callable, Iterator, Sequence, TypeVar
 
 # Signs that a terminal obeys, such as the first one of a color, those that turn the direction of a
 # text, and bytes of such signs.
@@ -53,7 +53,7 @@ class FileFault(Exception):
     `fault` is the text with which `inrc2pb` reports the same fault, such as `unknown name`.
     """
 
-    def __init__(self, path: Union[str, Path], line: int, message: str, fault: str = "") -> None:
+    def __init__(self, path: str | Path, line: int, message: str, fault: str = "") -> None:
         super().__init__(path, line, message, fault)
         self.path = Path(path)
         self.line = line
@@ -80,7 +80,7 @@ class Gathering:
     """A block at whose end the faults of its steps are raised together."""
 
     def __init__(self) -> None:
-        self._found: List[FileFault] = []
+        self._found: list[FileFault] = []
 
     def __enter__(self) -> "Gathering":
         return self
@@ -112,7 +112,7 @@ class Gathering:
         if self._found:
             raise FileFaults(self._found) if len(self._found) > 1 else self._found[0]
 
-    def __exit__(self, kind: Optional[Type[BaseException]], *_: object) -> None:
+    def __exit__(self, kind: type[BaseException] | None, *_: object) -> None:
         if kind is None:
             self.end()
 

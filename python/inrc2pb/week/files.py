@@ -6,7 +6,7 @@ docs/formats.md has the layouts. The values that they return are those of `recor
 what the file holds, if it was read already.
 """
 
-from typing import Dict, Iterable, List, Optional, Tuple
+from typing import Iterable
 
 from .faults import FileFault, Misuse
 from .records import (
@@ -42,7 +42,7 @@ from .slots import (
 from .writing import write_text
 
 
-def read_scenario(path: PathLike, text: Optional[str] = None) -> Scenario:
+def read_scenario(path: PathLike, text: str | None = None) -> Scenario:
     """Reads a scenario."""
     slots = Slots(path, text)
     slots.words("SCENARIO", "=")
@@ -50,13 +50,13 @@ def read_scenario(path: PathLike, text: Optional[str] = None) -> Scenario:
     slots.words("WEEKS", "=")
     weeks = slots.number("the number of weeks", 1, MAX_WEEKS)
     slots.words("SKILLS", "=")
-    skills: Dict[str, None] = {}
+    skills: dict[str, None] = {}
     for _ in range(slots.number("the number of skills", 1, MAX_SKILLS)):
         skills[slots.new_name("skill", skills)] = None
     shift_types = _shift_types(slots)
     contracts = _contracts(slots)
     slots.words("NURSES", "=")
-    nurses: Dict[str, Nurse] = {}
+    nurses: dict[str, Nurse] = {}
     for _ in range(slots.number("the number of nurses", 1, MAX_NURSES)):
         nurse = slots.new_name("nurse", nurses)
         contract = slots.known_name("contract", contracts, "CONTRACTS").text
@@ -70,14 +70,14 @@ def read_scenario(path: PathLike, text: Optional[str] = None) -> Scenario:
     )
 
 
-def _shift_types(slots: Slots) -> Dict[str, ShiftType]:
+def _shift_types(slots: Slots) -> dict[str, ShiftType]:
     slots.words("SHIFT_TYPES", "=")
-    limits: Dict[str, Limits] = {}
+    limits: dict[str, Limits] = {}
     for _ in range(slots.number("the number of shift types", 1, MAX_SHIFTS)):
         shift = slots.new_name("shift type", [*limits, NONE, ANY])
         limits[shift] = slots.pair(f"consecutive {shift} shifts")
     slots.words("FORBIDDEN_SHIFT_TYPES_SUCCESSIONS")
-    after: Dict[str, Tuple[str, ...]] = {}
+    after: dict[str, tuple[str, ...]] = {}
     with slots.line_for_each(limits, "FORBIDDEN_SHIFT_TYPES_SUCCESSIONS"):
         for _ in limits:
             token = slots.known_name("shift type", limits, "SHIFT_TYPES")
@@ -89,9 +89,9 @@ def _shift_types(slots: Slots) -> Dict[str, ShiftType]:
     return {shift: ShiftType(shift, limits[shift], after[shift]) for shift in limits}
 
 
-def _contracts(slots: Slots) -> Dict[str, Contract]:
+def _contracts(slots: Slots) -> dict[str, Contract]:
     slots.words("CONTRACTS", "=")
-    contracts: Dict[str, Contract] = {}
+    contracts: dict[str, Contract] = {}
     for _ in range(slots.number("the number of contracts", 1, MAX_CONTRACTS)):
         name = slots.new_name("contract", contracts)
         contracts[name] = Contract(
@@ -107,9 +107,9 @@ def _contracts(slots: Slots) -> Dict[str, Contract]:
 
 def _names_once(
     slots: Slots, count: int, kind: str, names: Iterable[str], source: str
-) -> Tuple[str, ...]:
+) -> tuple[str, ...]:
     known = list(names)
-    taken: List[str] = []
+    taken: list[str] = []
     for _ in range(count):
         token = slots.known_name(kind, known, source)
         _only_once(slots, token, taken, f"the {kind} '{token.text}' is")
@@ -124,7 +124,7 @@ def _only_once(
         slots.fault(token, "repeated", f"{what} listed twice: remove one")
 
 
-def read_history(path: PathLike, scenario: Scenario, text: Optional[str] = None) -> History:
+def read_history(path: PathLike, scenario: Scenario, text: str | None = None) -> History:
     """Reads a history of this scenario. The week's number is compared with WEEKS by
     `check_week_number`."""
     slots = Slots(path, text)
@@ -132,7 +132,7 @@ def read_history(path: PathLike, scenario: Scenario, text: Optional[str] = None)
     week = slots.number("the week's number")
     name = slots.any_word("the scenario's name").text
     slots.words("NURSE_HISTORY")
-    nurses: Dict[str, NurseHistory] = {}
+    nurses: dict[str, NurseHistory] = {}
     with slots.line_for_each(scenario.nurses, "NURSE_HISTORY"):
         for _ in scenario.nurses:
             token = slots.known_name("nurse", scenario.nurses, "NURSES")
@@ -177,13 +177,13 @@ def check_weeks_left(count: int, history: History, scenario: Scenario) -> None:
         )
 
 
-def read_week(path: PathLike, scenario: Scenario, text: Optional[str] = None) -> WeekData:
+def read_week(path: PathLike, scenario: Scenario, text: str | None = None) -> WeekData:
     """Reads the week data of this scenario."""
     slots = Slots(path, text)
     slots.words("WEEK_DATA")
     name = slots.any_word("the scenario's name").text
     slots.words("REQUIREMENTS")
-    requirements: Dict[Place, Requirement] = {}
+    requirements: dict[Place, Requirement] = {}
     ending = "SHIFT_OFF_REQUESTS"
     while True:
         token = slots.known_name("shift type", scenario.shift_types, "SHIFT_TYPES", (ending,))
@@ -224,7 +224,7 @@ def _day(slots: Slots) -> int:
 
 
 def read_solution(
-    path: PathLike, scenario: Optional[Scenario] = None, text: Optional[str] = None
+    path: PathLike, scenario: Scenario | None = None, text: str | None = None
 ) -> Solution:
     """Reads a solution or fix file; with a scenario each name has to be one of its names."""
     slots = Slots(path, text)
@@ -232,7 +232,7 @@ def read_solution(
     week = slots.number("the week's number")
     name = slots.any_word("the scenario's name").text
     slots.words("ASSIGNMENTS", "=")
-    rows: Dict[Cell, None] = {}
+    rows: dict[Cell, None] = {}
     for _ in range(slots.number("the number of assignments")):
         nurse = (
             slots.known_name("nurse", scenario.nurses, "NURSES")

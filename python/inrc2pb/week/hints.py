@@ -2,7 +2,7 @@
 
 import re
 import unicodedata
-from typing import Callable, Collection, Dict, Iterator, List, Optional, Sequence
+from typing import Callable, Collection, Iterator, Sequence
 
 from .records import DAYS
 from .words import plural, quoted
@@ -31,7 +31,7 @@ _FILES = {
 _PAIR = re.compile(r"\(\s*[0-9]+\s*,\s*[0-9]+\s*\)")
 
 
-def words_of(row: str) -> List[str]:
+def words_of(row: str) -> list[str]:
     """The words of a row. They are separated as in the files: other blanks of Unicode are
     letters."""
     return re.findall(r"[^ \t\r\n]+", row)
@@ -143,12 +143,12 @@ def _no_requests(lines: Sequence[str]) -> Iterator[str]:
 # ---- rows by their section
 
 
-def _names_of(row: str) -> List[str]:
+def _names_of(row: str) -> list[str]:
     """The words with which a row begins, before its first number or bracket."""
     return words_of(re.split(r"(?:^|[ \t])[0-9]|\(", row, maxsplit=1)[0])
 
 
-def _blank_in(row: str, count: int) -> Optional[str]:
+def _blank_in(row: str, count: int) -> str | None:
     """A reason if a row begins with more words than it should have names. One with = is a heading,
     though a wrong one."""
     names = [] if "=" in row else _names_of(row)
@@ -159,10 +159,10 @@ def _blank_in(row: str, count: int) -> Optional[str]:
     )
 
 
-def _announced(names: int, noun: str) -> Callable[[str], Optional[str]]:
+def _announced(names: int, noun: str) -> Callable[[str], str | None]:
     """Rows that have some names, a number, and this number of words."""
 
-    def reason(row: str) -> Optional[str]:
+    def reason(row: str) -> str | None:
         words = words_of(row)
         number = words[names] if len(words) > names else ""
         count = len(words) - names - 1
@@ -175,7 +175,7 @@ def _announced(names: int, noun: str) -> Callable[[str], Optional[str]]:
     return reason
 
 
-def _required(row: str) -> Optional[str]:
+def _required(row: str) -> str | None:
     """A reason if a row has another number of pairs than days. One with = is a heading, though a
     wrong one."""
     names = "" if "=" in row else " ".join(_names_of(row))
@@ -187,7 +187,7 @@ def _required(row: str) -> Optional[str]:
     )
 
 
-def _requested(row: str) -> Optional[str]:
+def _requested(row: str) -> str | None:
     words = words_of(row)
     turned = len(words) == 3 and words[1] in DAYS and words[2] not in DAYS
     return (
@@ -197,7 +197,7 @@ def _requested(row: str) -> Optional[str]:
     )
 
 
-def _assigned(row: str) -> Optional[str]:
+def _assigned(row: str) -> str | None:
     words = words_of(row)
     turned = len(words) == 4 and words[1] not in DAYS and words[2] in DAYS
     return (
@@ -207,7 +207,7 @@ def _assigned(row: str) -> Optional[str]:
     )
 
 
-def _wrong_length(row: str, count: int, says: str) -> Optional[str]:
+def _wrong_length(row: str, count: int, says: str) -> str | None:
     """A reason if a row has another number of words. One with = is a heading, though a wrong
     one."""
     words = words_of(row)
@@ -218,14 +218,14 @@ def _wrong_length(row: str, count: int, says: str) -> Optional[str]:
     )
 
 
-def _past(row: str) -> Optional[str]:
+def _past(row: str) -> str | None:
     words = words_of(row)
     return _blank_in(row, 1) or (
         None if len(words) == 7 else f"{words[0]} has {len(words) - 1} entries, and 6 are needed"
     )
 
 
-_ROWS: Dict[str, Callable[[str], Optional[str]]] = {
+_ROWS: dict[str, Callable[[str], str | None]] = {
     "SKILLS": lambda row: _blank_in(row, 1),
     "SHIFT_TYPES": lambda row: _blank_in(row, 1),
     "FORBIDDEN_SHIFT_TYPES_SUCCESSIONS": _announced(1, "shift type"),
@@ -241,7 +241,7 @@ _ROWS: Dict[str, Callable[[str], Optional[str]]] = {
 # ---- signs: what spreadsheets, word processors and other keyboards put in the place of plain ones
 
 
-def reason_of_signs(lines: Sequence[str], line: int, word: str) -> Optional[str]:
+def reason_of_signs(lines: Sequence[str], line: int, word: str) -> str | None:
     """What to write in place of signs in this line or, if it became a single word, in the one
     before."""
     return next(_reasons(lines, line, word), None)
@@ -279,7 +279,7 @@ def of_another_kind(word: str) -> str:
     return f": this is {_FILES[word]}" if word in _FILES else ""
 
 
-def composed_otherwise(word: str, names: Collection[str]) -> Optional[str]:
+def composed_otherwise(word: str, names: Collection[str]) -> str | None:
     """The name that looks like this word, and has other bytes: an accent may be a part of its
     letter or a sign of its own."""
     same = unicodedata.normalize("NFC", word)

@@ -2,18 +2,7 @@
 has their names."""
 
 from dataclasses import dataclass
-from typing import (
-    Dict,
-    FrozenSet,
-    Iterable,
-    List,
-    Mapping,
-    NamedTuple,
-    Optional,
-    Sequence,
-    Set,
-    Tuple,
-)
+from typing import Iterable, Mapping, NamedTuple, Sequence
 
 DAYS = ("Mon", "Tue", "Wed", "Thu", "Fri", "Sat", "Sun")
 NONE = "None"
@@ -35,10 +24,10 @@ class ShiftType:
 
     name: str
     consecutive: Limits
-    forbidden_next: Tuple[str, ...]
+    forbidden_next: tuple[str, ...]
 
 
-def successions(types: Sequence[ShiftType]) -> List[Set[int]]:
+def successions(types: Sequence[ShiftType]) -> list[set[int]]:
     """For each choice of a day, the choices that may not follow it (H3): 0 is a day off, and shift
     types count from 1."""
     numbers = {shift.name: number for number, shift in enumerate(types, 1)}
@@ -63,7 +52,7 @@ class Nurse:
 
     name: str
     contract: str
-    skills: Tuple[str, ...]
+    skills: tuple[str, ...]
 
 
 @dataclass(frozen=True)
@@ -72,16 +61,16 @@ class Scenario:
 
     name: str
     weeks: int
-    skills: Tuple[str, ...]
-    shift_types: Dict[str, ShiftType]
-    contracts: Dict[str, Contract]
-    nurses: Dict[str, Nurse]
+    skills: tuple[str, ...]
+    shift_types: dict[str, ShiftType]
+    contracts: dict[str, Contract]
+    nurses: dict[str, Nurse]
 
     def contract_of(self, nurse: str) -> Contract:
         """The contract of the nurse with this name."""
         return self.contracts[self.nurses[nurse].contract]
 
-    def forbids(self, before: Optional[str], after: Optional[str]) -> bool:
+    def forbids(self, before: str | None, after: str | None) -> bool:
         """Whether the second shift type may not follow the first one on the next day (H3). Days off
         (None) forbid nothing."""
         return before is not None and after in self.shift_types[before].forbidden_next
@@ -94,7 +83,7 @@ class NurseHistory:
     nurse: str
     assignments: int
     weekends: int
-    last_shift: Optional[str]
+    last_shift: str | None
     consecutive_shifts: int
     working_days: int
     days_off: int
@@ -107,7 +96,7 @@ class History:
 
     week: int
     scenario: str
-    nurses: Dict[str, NurseHistory]
+    nurses: dict[str, NurseHistory]
 
 
 class NurseDay(NamedTuple):
@@ -138,7 +127,7 @@ class Request:
     """A nurse's request not to work on a day; `shift` is None if it is for any shift type."""
 
     nurse: str
-    shift: Optional[str]
+    shift: str | None
     day: int
 
 
@@ -147,7 +136,7 @@ class Absence(NamedTuple):
 
     nurse: str
     day: int
-    shift: Optional[str]
+    shift: str | None
 
 
 class KeptLimit(NamedTuple):
@@ -165,10 +154,10 @@ class WeekData:
     file of facts has for the week."""
 
     name: str
-    requirements: Dict[Place, Requirement]
-    requests: Tuple[Request, ...]
-    absences: FrozenSet[Absence] = frozenset()
-    limits: FrozenSet[KeptLimit] = frozenset()
+    requirements: dict[Place, Requirement]
+    requests: tuple[Request, ...]
+    absences: frozenset[Absence] = frozenset()
+    limits: frozenset[KeptLimit] = frozenset()
 
 
 class Cell(NamedTuple):
@@ -190,7 +179,7 @@ class Solution:
 
     week: int
     scenario: str
-    cells: Tuple[Cell, ...]
+    cells: tuple[Cell, ...]
 
 
 @dataclass(frozen=True)
@@ -210,14 +199,14 @@ class Week:
 # ---- days and weeks of a plan, whose days count from its first Monday
 
 
-def in_week(cells: Iterable[Cell], week: int) -> Tuple[Cell, ...]:
+def in_week(cells: Iterable[Cell], week: int) -> tuple[Cell, ...]:
     """The shifts of a week, with the days of the week, as files have them."""
     return tuple(
         cell._replace(day=cell.day % WEEK_DAYS) for cell in cells if cell.day // WEEK_DAYS == week
     )
 
 
-def in_plan(rosters: Iterable[Sequence[Cell]]) -> Tuple[Cell, ...]:
+def in_plan(rosters: Iterable[Sequence[Cell]]) -> tuple[Cell, ...]:
     """The shifts of weeks, one after another from the first one on, with the days of the plan."""
     return tuple(
         cell._replace(day=WEEK_DAYS * week + cell.day)
@@ -226,7 +215,7 @@ def in_plan(rosters: Iterable[Sequence[Cell]]) -> Tuple[Cell, ...]:
     )
 
 
-def exchanged(cells: Iterable[Cell], days: Mapping[NurseDay, NurseDay]) -> List[Cell]:
+def exchanged(cells: Iterable[Cell], days: Mapping[NurseDay, NurseDay]) -> list[Cell]:
     """The shifts after nurses' days have got those of other nurses' days, each of which is the key
     of the other."""
     places = (

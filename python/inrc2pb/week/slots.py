@@ -5,18 +5,7 @@ import contextlib
 import difflib
 import re
 from pathlib import Path
-from typing import (
-    Callable,
-    Collection,
-    Iterable,
-    Iterator,
-    List,
-    NamedTuple,
-    NoReturn,
-    Optional,
-    Tuple,
-    Union,
-)
+from typing import Callable, Collection, Iterable, Iterator, NamedTuple, NoReturn
 
 from .faults import FileFault
 from .hints import (
@@ -41,7 +30,7 @@ SIGNS = "(),="
 _TOKEN = re.compile(r"[(),=]|[^ \t\n\r(),=]+")
 _COMMENT_STARTS = ("#", "//", ";", "%", "/*", "<!--", "--")
 
-PathLike = Union[str, Path]
+PathLike = str | Path
 
 
 class Token(NamedTuple):
@@ -68,7 +57,7 @@ def text_of(path: PathLike) -> str:
     return data.decode("utf-8", errors="surrogateescape")
 
 
-def tokens_of(text: str) -> List[Token]:
+def tokens_of(text: str) -> list[Token]:
     """The words and signs of a text with their lines; blanks are space, tab, LF and CR."""
     tokens = []
     for number, line in enumerate(text.split("\n"), 1):
@@ -99,7 +88,7 @@ def _other_encoding(word: str, names: Iterable[str]) -> str:
     return ("the scenario" if is_utf8(word) else "this file") + " is not UTF-8: save it as UTF-8"
 
 
-def closest(word: str, names: Iterable[str]) -> Optional[str]:
+def closest(word: str, names: Iterable[str]) -> str | None:
     """The name that the word most likely means, also if only its case differs."""
     words = list(names)
     low = word.lower()
@@ -128,7 +117,7 @@ class Slots:
     """The tokens of a file. Each method takes the next ones, or raises the fault that `inrc2pb`
     would report."""
 
-    def __init__(self, path: PathLike, text: Optional[str] = None) -> None:
+    def __init__(self, path: PathLike, text: str | None = None) -> None:
         self.path = Path(path)
         self.text = text_of(path) if text is None else text
         self.tokens = tokens_of(self.text)
@@ -258,7 +247,7 @@ class Slots:
         return token.text
 
     def known_name(
-        self, kind: str, names: Collection[str], source: str, others: Tuple[str, ...] = ()
+        self, kind: str, names: Collection[str], source: str, others: tuple[str, ...] = ()
     ) -> Token:
         """A name of this list, or one of the other words that may be in its place."""
         token = self.any_word(f"a {kind}")

@@ -1,6 +1,6 @@
 """Names, numbers and lists as people read them in a sentence."""
 
-from typing import Iterable, Optional
+from typing import Iterable
 
 # The word for a nurse's day without a shift.
 OFF = "off"
@@ -11,7 +11,7 @@ def readable(name: str) -> str:
     return name.replace("_", " ")
 
 
-def wish_text(shift: Optional[str]) -> str:
+def wish_text(shift: str | None) -> str:
     """What a nurse has asked for: to be off, or not to work this shift type."""
     return f"no {readable(shift)}" if shift else OFF
 

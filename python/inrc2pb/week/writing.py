@@ -7,7 +7,7 @@ import os
 import stat
 import tempfile
 from pathlib import Path
-from typing import Iterable, Iterator, Optional, TextIO
+from typing import Iterable, Iterator, TextIO
 
 from .faults import Misuse
 from .slots import PathLike
@@ -83,7 +83,7 @@ def flush(path: Path) -> None:
 
 
 @contextlib.contextmanager
-def replacing_link(target: Path, path: Optional[PathLike] = None) -> Iterator[TextIO]:
+def replacing_link(target: Path, path: PathLike | None = None) -> Iterator[TextIO]:
     """A new file that takes the place of this one, or of a link, which is not followed, at the end
     of the block; after a fault it is removed, and the old one stays. A fault names the path, if it
     is given."""
@@ -138,7 +138,7 @@ def _write_over(target: Path, data: bytes) -> None:
 
 
 def check_inputs_stay(
-    inputs: Iterable[Optional[Path]], target: Path, what: str, choose: str = "file"
+    inputs: Iterable[Path | None], target: Path, what: str, choose: str = "file"
 ) -> None:
     """Raises Misuse if the target would replace a file that the command reads, by its path or by a
     link."""
@@ -149,7 +149,7 @@ def check_inputs_stay(
             )
 
 
-def check_no_pipes(inputs: Iterable[Optional[Path]]) -> None:
+def check_no_pipes(inputs: Iterable[Path | None]) -> None:
     """Raises Misuse if one of these files, which are read again and again, is a pipe."""
     for path in inputs:
         if path and _is_pipe(path):

@@ -1,6 +1,5 @@
 """The verb for a nurse who is back."""
 
-from typing import List, Tuple
 
 from ...sheets.written_days import BACK, with_days, without_last, words_of
 from ...week.faults import Misuse
@@ -35,7 +34,7 @@ def _lifted(old: WardPlan, event: Event) -> Away:
     return Away(old, new, nurse, tuple(days), BACK, was=word)
 
 
-def absence_from(plan: WardPlan, nurse: str, first: int) -> Tuple[str, List[int]]:
+def absence_from(plan: WardPlan, nurse: str, first: int) -> tuple[str, list[int]]:
     """The reason for which a nurse is away on a day, and the days from it on with the same reason,
     that a verb has written if it has written this one, or that only the spreadsheet says. Raises
     Misuse if she is not away."""

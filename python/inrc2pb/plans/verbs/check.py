@@ -1,7 +1,7 @@
 """The verb that names the mistakes of the spreadsheet, and prints the ward in sentences."""
 
 from dataclasses import dataclass
-from typing import Iterator, List, Tuple
+from typing import Iterator
 
 from ...judging.odd_values import Reach
 from ...sheets.week_rows import WeekRow
@@ -30,15 +30,15 @@ class Checked(Outcome):
 
     plan: WardPlan
     # The pages that show another plan.
-    other_pages: Tuple[str, ...] = ()
+    other_pages: tuple[str, ...] = ()
     # The rows of needs that are as they were last period.
-    anew: Tuple[WeekRow, ...] = ()
+    anew: tuple[WeekRow, ...] = ()
     # Nurses who may have another name now.
     strangers: Strangers = Strangers()
     # What is odd in the days of later periods.
-    later: Tuple[str, ...] = ()
+    later: tuple[str, ...] = ()
 
-    def lines(self, write: str = "") -> List[str]:
+    def lines(self, write: str = "") -> list[str]:
         """What is odd in the spreadsheet and wrong in the plan that holds, and the ward in
         sentences."""
         plan = self.plan
@@ -77,7 +77,7 @@ def _done(store: PlanStore, _event: Event) -> Checked:
     )
 
 
-def _ward_lines(plan: WardPlan) -> List[str]:
+def _ward_lines(plan: WardPlan) -> list[str]:
     """The ward and the weeks that are not over in sentences: first its size, and what its weeks ask
     for and the contracts supply."""
     limits = limit_sentences(plan.scenario, plan.data[plan.state.open_week]) if plan.weeks else ()

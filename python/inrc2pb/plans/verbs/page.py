@@ -1,7 +1,6 @@
 """The verb that hangs a plan up: it writes the pages and calendars."""
 
 from dataclasses import dataclass, replace
-from typing import List
 
 from ..sentences import exceeded_lines, working_lines
 from ..reading import PAGE
@@ -16,7 +15,7 @@ class Published(Outcome):
 
     plan: WardPlan
 
-    def lines(self, write: str = "") -> List[str]:
+    def lines(self, write: str = "") -> list[str]:
         """What the plan on the wall exceeds, and its pages."""
         return [
             *working_lines(self.plan),

@@ -2,7 +2,6 @@
 
 import datetime
 from dataclasses import dataclass, replace
-from typing import List, Optional, Tuple
 
 from ...programs.program import NO_ROSTER
 from ...sheets.written_days import BACK
@@ -29,10 +28,10 @@ class DaySet(Outcome):
     new: WardPlan
     promise: SetDay
     # Why it cannot be, and who could do it instead.
-    faults: Tuple[Fault, ...] = ()
-    instead: Tuple[Instead, ...] = ()
+    faults: tuple[Fault, ...] = ()
+    instead: tuple[Instead, ...] = ()
     # What was promised for the day before.
-    replaces: Optional[SetDay] = None
+    replaces: SetDay | None = None
     # Whether later plans need not keep the promise any more.
     takes_back: bool = False
     # What the day alone adds to the points, and the words of the verb.
@@ -49,7 +48,7 @@ class DaySet(Outcome):
         return self.promise.place
 
     @property
-    def now(self) -> Optional[Cell]:
+    def now(self) -> Cell | None:
         """Her shift; None if she is off."""
         return self.promise.cell
 
@@ -62,7 +61,7 @@ class DaySet(Outcome):
         costs = [way.cost for way in self.instead if way.swap] + [self.cost] * (not self.faults)
         return all(cost > MOST_POINTS for cost in costs)
 
-    def heads(self, is_look: bool = False) -> List[str]:
+    def heads(self, is_look: bool = False) -> list[str]:
         """What is promised, and what it replaces."""
         text = _promise_text(self.old, self.promise)
         older = self.replaces and _promise_text(self.old, self.replaces)
@@ -72,11 +71,11 @@ class DaySet(Outcome):
             f"{text}: swaps and later plans keep it, until it is taken back",
         ]
 
-    def question(self) -> List[str]:
+    def question(self) -> list[str]:
         """The same."""
         return self.lines()
 
-    def lines(self, write: str = "") -> List[str]:
+    def lines(self, write: str = "") -> list[str]:
         """Why a nurse's day cannot be set, or what that changes and costs, and whether it is
         written; who could do it instead."""
         if self.takes_back:
@@ -95,7 +94,7 @@ class DaySet(Outcome):
             return [*said, f"nothing is written: {write}", *instead] if write else said
         return [*said, *exceeded_lines(self.new), *self.pages.lines()]
 
-    def _instead(self) -> List[str]:
+    def _instead(self) -> list[str]:
         """Who could do it instead, or swap for it, and how that is written."""
         if self.replaces and not self.instead:
             return ["who else could do it is known after the older promise is taken back"]

@@ -1,7 +1,7 @@
 """The verb for two nurses who swap shifts, and for who could take one."""
 
 from dataclasses import dataclass, replace
-from typing import List, NamedTuple, Optional, Sequence, Set, Tuple, Union
+from typing import NamedTuple, Sequence
 
 from ...week.faults import FileFault, Misuse
 from ...week.records import Cell, NurseDay
@@ -24,17 +24,17 @@ class Swapped(Outcome):
     old: WardPlan
     new: WardPlan
     swap: Swap
-    faults: Tuple[Fault, ...] = ()
+    faults: tuple[Fault, ...] = ()
     # Whether it takes a swap of theirs back.
     takes_back: bool = False
     # Who else could take the first shift.
-    offers: Optional[Offers] = None
+    offers: Offers | None = None
 
-    def question(self) -> List[str]:
+    def question(self) -> list[str]:
         """The same."""
         return self.lines()
 
-    def lines(self, write: str = "") -> List[str]:
+    def lines(self, write: str = "") -> list[str]:
         """Why a swap cannot be, or what it changes and costs, and whether it is written; who
         else could take the shift."""
         offers = self.offers.lines() if self.offers else []
@@ -56,7 +56,7 @@ class Look(NamedTuple):
     day: int
 
 
-def asked_swap(old: WardPlan, event: Event) -> Union[Look, Swap]:
+def asked_swap(old: WardPlan, event: Event) -> Look | Swap:
     """The swap of two nurses that is asked for, or the look at all swaps of a shift."""
     names = [readable(nurse) for nurse in old.scenario.nurses][:2]
     wording = wording_of(
@@ -76,7 +76,7 @@ def asked_swap(old: WardPlan, event: Event) -> Union[Look, Swap]:
     return Swap(nurse, other, tuple(sorted(days)))
 
 
-def judged(old: WardPlan, asked: Swap, before: Optional[State], has_offers: bool) -> Swapped:
+def judged(old: WardPlan, asked: Swap, before: State | None, has_offers: bool) -> Swapped:
     """What a swap makes of a plan. It takes the last swap of the same nurses and days back, if it
     gives them the shifts that they had `before` that one."""
     swaps = Swaps(old)
@@ -109,7 +109,7 @@ def judged(old: WardPlan, asked: Swap, before: Optional[State], has_offers: bool
     return Swapped(old, new, asked, takes_back=takes_back, offers=offers)
 
 
-def _shifts(cells: Sequence[Cell], swap: Swap) -> Set[Tuple[str, int, str]]:
+def _shifts(cells: Sequence[Cell], swap: Swap) -> set[tuple[str, int, str]]:
     """The shifts of the two nurses on the days of a swap."""
     return {
         (cell.nurse, cell.day, cell.shift)
@@ -118,7 +118,7 @@ def _shifts(cells: Sequence[Cell], swap: Swap) -> Set[Tuple[str, int, str]]:
     }
 
 
-def _asked(store: PlanStore, event: Event) -> Union[Offers, Swapped]:
+def _asked(store: PlanStore, event: Event) -> Offers | Swapped:
     """What a swap costs and breaks, and who else could swap."""
     old = store.fitting()
     asked = asked_swap(old, event)
@@ -127,7 +127,7 @@ def _asked(store: PlanStore, event: Event) -> Union[Offers, Swapped]:
     return judged(old, asked, _before_swap(store, old, asked), has_offers=not event.do)
 
 
-def _done(store: PlanStore, event: Event) -> Union[Offers, Swapped]:
+def _done(store: PlanStore, event: Event) -> Offers | Swapped:
     """The same; with `do` the swap is written, and later plans keep it, unless it takes another one
     back."""
     found = _asked(store, event)
@@ -143,7 +143,7 @@ def _named(plan: WardPlan, swap: Swap) -> str:
     return f"swap {swap.nurse} {swap.other} {' '.join(map(plan.days.head, swap.days))}"
 
 
-def agreed_swap(store: PlanStore, plan: WardPlan, place: NurseDay) -> Optional[Swap]:
+def agreed_swap(store: PlanStore, plan: WardPlan, place: NurseDay) -> Swap | None:
     """The last swap that was written for a nurse's day, by the verbs of the plans, if the plan
     keeps it, and a swap may move its days."""
     records = (
@@ -166,7 +166,7 @@ def agreed_swap(store: PlanStore, plan: WardPlan, place: NurseDay) -> Optional[S
     return None
 
 
-def _before_swap(store: PlanStore, old: WardPlan, asked: Swap) -> Optional[State]:
+def _before_swap(store: PlanStore, old: WardPlan, asked: Swap) -> State | None:
     """What the last swap of these two on these days began with, if they have agreed on one."""
     if not set(asked.places) <= set(old.state.agreed):
         return None

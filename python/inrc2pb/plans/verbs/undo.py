@@ -2,7 +2,7 @@
 
 from dataclasses import dataclass
 from pathlib import Path
-from typing import List, NamedTuple, Optional, Union
+from typing import NamedTuple
 
 from ...week.faults import FileFault, Misuse, fault_line
 from ...week.words import readable
@@ -19,7 +19,7 @@ class Made(NamedTuple):
     """A plan's folder and its record, if it is not damaged."""
 
     folder: Path
-    record: Optional[Record]
+    record: Record | None
 
     def text(self) -> str:
         """The verb and the time of a plan; the name of its folder if it is damaged."""
@@ -32,15 +32,15 @@ class Undone(Outcome):
     spreadsheet has a fault."""
 
     undone: Made
-    holds: Optional[Made] = None
-    plan: Optional[WardPlan] = None
-    fault: Union[FileFault, Misuse, OSError, None] = None
+    holds: Made | None = None
+    plan: WardPlan | None = None
+    fault: FileFault | Misuse | OSError | None = None
 
-    def question(self) -> List[str]:
+    def question(self) -> list[str]:
         """The same."""
         return self.lines()
 
-    def lines(self, write: str = "") -> List[str]:
+    def lines(self, write: str = "") -> list[str]:
         """Which verb is taken back, and which plan holds again."""
         made = self.undone.text()
         holds = self.holds
