@@ -7,6 +7,7 @@ import os
 import re
 import shlex
 import sys
+from pathlib import Path
 from typing import Any, Mapping, NoReturn, Sequence
 
 from ..programs.program import run_program
@@ -62,6 +63,39 @@ class Parser(argparse.ArgumentParser):
         self.add_argument(
             "--version", action=_Version, nargs=0, help="print the version of inrc2pb and exit"
         )
+
+    def add_file(
+        self, option: str, asks: str, required: bool = False, metavar: str = "FILE"
+    ) -> None:
+        """Adds an option that names a file or a folder."""
+        self.add_argument(option, metavar=metavar, type=Path, required=required, help=asks)
+
+    def add_files(
+        self, option: str, asks: str, required: bool = False, nargs: int | str = "+"
+    ) -> None:
+        """Adds an option that names files, and may be repeated."""
+        self.add_argument(
+            option,
+            metavar="FILE",
+            type=Path,
+            nargs=nargs,
+            action="extend",
+            default=None if required else [],
+            required=required,
+            help=asks,
+        )
+
+    def add_fix(self, asks: str) -> None:
+        """Adds the option that names the fix files of weeks."""
+        self.add_argument("--fix", metavar="[N=]FILE", action="append", default=[], help=asks)
+
+    def add_flag(self, option: str, asks: str) -> None:
+        """Adds an option without a value."""
+        self.add_argument(option, action="store_true", help=asks)
+
+    def add_out(self) -> None:
+        """Adds the option that names the file for what a verb prints."""
+        self.add_file("--out", "write to this file, not to standard output")
 
     def parse_args(self, args: Sequence[str] | None = None, namespace: Any = None) -> Any:
         """Returns the values of the command line. A mistake is printed, and ends the program."""

@@ -30,7 +30,6 @@ from ..week.writing import check_no_pipes
 from .arguments import Parser, parser
 from .week_options import (
     add_given_option,
-    add_rosters_option,
     add_weeks_options,
     fix_files,
     the_week,
@@ -225,12 +224,10 @@ def options() -> Parser:
     )
     add_weeks_options(checks, required=False)
     add_given_option(checks)
-    add_rosters_option(checks, "rosters of the week to check, as solution files")
-    checks.add_argument("--tell", action="store_true", help="print the files in sentences")
-    checks.add_argument(
-        "--why-none",
-        action="store_true",
-        help="if no roster exists: the minimum numbers to lower, and who has the skill",
+    checks.add_files("--roster", "rosters of the week to check, as solution files")
+    checks.add_flag("--tell", "print the files in sentences")
+    checks.add_flag(
+        "--why-none", "if no roster exists: the minimum numbers to lower, and who has the skill"
     )
     return checks
 

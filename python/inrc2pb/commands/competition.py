@@ -129,30 +129,12 @@ def options() -> Parser:
         required=True,
         help="the word that selects this command line",
     )
-    competition.add_argument("--sce", metavar="FILE", type=Path, required=True, help="the scenario")
-    competition.add_argument(
-        "--his",
-        metavar="FILE",
-        type=Path,
-        required=True,
-        help="the history with which the week begins",
-    )
-    competition.add_argument(
-        "--week",
-        metavar="FILE",
-        type=Path,
-        required=True,
-        help="the week's requirements and requests",
-    )
-    competition.add_argument(
-        "--sol", metavar="FILE", type=Path, required=True, help="the solution file to write"
-    )
-    competition.add_argument(
-        "--cusIn", metavar="FILE", type=Path, help="a solver's data from the week before: not read"
-    )
-    competition.add_argument(
-        "--cusOut", metavar="FILE", type=Path, help="the data for the next week: its number"
-    )
+    competition.add_file("--sce", "the scenario", required=True)
+    competition.add_file("--his", "the history with which the week begins", required=True)
+    competition.add_file("--week", "the week's requirements and requests", required=True)
+    competition.add_file("--sol", "the solution file to write", required=True)
+    competition.add_file("--cusIn", "a solver's data from the week before: not read")
+    competition.add_file("--cusOut", "the data for the next week: its number")
     competition.add_argument("--rand", metavar="N", type=int, help="the seed: not used")
     timeout = "seconds in which this process ends, its start included (default: 60)"
     competition.add_argument(

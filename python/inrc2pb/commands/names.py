@@ -32,9 +32,7 @@ def options() -> Parser:
     )
     names.add_argument("model", metavar="FILE", type=Path, help="the model")
     add_weeks_options(names, one=True)
-    names.add_argument(
-        "--out", metavar="FILE", type=Path, help="write to this file, not to standard output"
-    )
+    names.add_out()
     return names
 
 

@@ -25,7 +25,7 @@ from ..programs.secrets_file import kept_secret
 from ..sheets.plan_sheets import AWAY, COUNTED
 from ..week.faults import Misuse
 from . import ward
-from .arguments import check_verb, options_first, parser, table_of
+from .arguments import Parser, check_verb, options_first, parser, table_of
 from .week_options import check_seconds, number_of_seconds
 
 # What the help says of the verbs: those of a folder's plan, and others before and after them.
@@ -53,7 +53,7 @@ _CLEAR_TEXT = (
 _ORIGIN = re.compile(r"https?://[a-z0-9.-]+(:[0-9]{1,5})?")
 
 
-def _options() -> argparse.ArgumentParser:
+def _options() -> Parser:
     options = parser(
         (
             "Plans a ward from one folder: its spreadsheet, and what verbs have made of"
@@ -88,10 +88,8 @@ def _options() -> argparse.ArgumentParser:
             f" plan, {CHANGE_SECONDS:.0f} for a change); with set, 0 changes nothing else"
         ),
     )
-    options.add_argument(
-        "--do",
-        action="store_true",
-        help="with swap or set: write it; with others: also a plan that exceeds a maximum with !",
+    options.add_flag(
+        "--do", "with swap or set: write it; with others: also a plan that exceeds a maximum with !"
     )
     options.add_argument(
         "--port",
@@ -118,20 +116,13 @@ def _options() -> argparse.ArgumentParser:
             " a tunnel leads to this machine"
         ),
     )
-    options.add_argument(
+    options.add_file(
         "--secret",
-        metavar="FILE",
-        type=Path,
-        help=(
-            "with serve: a file that keeps the secret of the address, so that a bookmark lives; it"
-            " is made if there is none"
-        ),
+        "with serve: a file that keeps the secret of the address, so that a bookmark lives; it"
+        " is made if there is none",
     )
-    options.add_argument(
-        "--out",
-        metavar="FOLDER",
-        type=Path,
-        help="with files: where they go (default: the ward's folder)",
+    options.add_file(
+        "--out", "with files: where they go (default: the ward's folder)", metavar="FOLDER"
     )
     options.add_argument(
         "--credit",
@@ -141,18 +132,13 @@ def _options() -> argparse.ArgumentParser:
             f" or none (default: {','.join(COUNTED)})"
         ),
     )
-    options.add_argument(
+    options.add_flag(
         "--requests",
-        action="store_true",
-        help=(
-            "with files: absences in the weeks' files too, as many equal requests, for other"
-            " solvers"
-        ),
+        "with files: absences in the weeks' files too, as many equal requests, for other"
+        " solvers",
     )
-    options.add_argument(
-        "--free",
-        action="store_true",
-        help="with plan: all shifts may change, also of a plan that hangs on the wall",
+    options.add_flag(
+        "--free", "with plan: all shifts may change, also of a plan that hangs on the wall"
     )
     return options
 

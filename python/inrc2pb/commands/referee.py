@@ -25,7 +25,6 @@ from ..week.writing import (
 )
 from .arguments import Parser, parser
 from .week_options import (
-    add_rosters_option,
     add_weeks_options,
     check_seconds,
     number_of_seconds,
@@ -53,22 +52,10 @@ def options() -> Parser:
     )
     add_weeks_options(referee)
     asks = "the answers of solvers to the week's model"
-    referee.add_argument(
-        "--answer", metavar="FILE", type=Path, nargs="+", action="extend", required=True, help=asks
-    )
-    add_rosters_option(referee, "rosters of the week that are known, as solution files")
-    referee.add_argument(
-        "--proof",
-        metavar="FILE",
-        type=Path,
-        help="the certificate of a bound, in place of a search",
-    )
-    referee.add_argument(
-        "--out",
-        metavar="FILE",
-        type=Path,
-        help="the file for the best roster, which shows why a claim is refuted",
-    )
+    referee.add_files("--answer", asks, required=True)
+    referee.add_files("--roster", "rosters of the week that are known, as solution files")
+    referee.add_file("--proof", "the certificate of a bound, in place of a search")
+    referee.add_file("--out", "the file for the best roster, which shows why a claim is refuted")
     limit = f"the most seconds of the search (default: {SECONDS:.0f})"
     referee.add_argument(
         "--time", metavar="SECONDS", type=number_of_seconds, default=SECONDS, help=limit

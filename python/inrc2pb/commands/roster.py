@@ -21,7 +21,7 @@ from ..week.files import history_text, read_history, read_scenario, read_solutio
 from ..week.records import DAYS, Place, Week
 from . import check, names, referee, show
 from .arguments import Parser, check_verb, parser, table_of
-from .week_options import add_given_option, add_rosters_option, add_weeks_options, fix_files
+from .week_options import add_given_option, add_weeks_options, fix_files
 from .show import lines_text, warn, write_result
 
 
@@ -48,21 +48,11 @@ def _why_options() -> Parser:
     )
     add_weeks_options(options)
     add_given_option(options)
-    add_rosters_option(
-        options, "a roster of each week, in order, as a solution file", required=True
+    options.add_files(
+        "--roster", "a roster of each week, in order, as a solution file", required=True
     )
-    options.add_argument(
-        "--old",
-        metavar="FILE",
-        type=Path,
-        nargs="+",
-        action="extend",
-        default=[],
-        help="an older roster of each week: what the change saves and costs",
-    )
-    options.add_argument(
-        "--out", metavar="FILE", type=Path, help="write to this file, not to standard output"
-    )
+    options.add_files("--old", "an older roster of each week: what the change saves and costs")
+    options.add_out()
     return options
 
 
@@ -83,10 +73,8 @@ def _swap_options() -> Parser:
     )
     add_weeks_options(options)
     add_given_option(options)
-    add_rosters_option(options, "the roster of the week, as a solution file", required=True)
-    options.add_argument(
-        "--out", metavar="FILE", type=Path, help="write to this file, not to standard output"
-    )
+    options.add_files("--roster", "the roster of the week, as a solution file", required=True)
+    options.add_out()
     return options
 
 
@@ -151,27 +139,11 @@ def _next_options() -> Parser:
         ),
         "next",
     )
-    options.add_argument("--sce", metavar="FILE", type=Path, required=True, help="the scenario")
-    options.add_argument(
-        "--his",
-        metavar="FILE",
-        type=Path,
-        required=True,
-        help="the history with which the week began",
-    )
-    options.add_argument(
-        "--roster",
-        metavar="FILE",
-        type=Path,
-        required=True,
-        help="the week's roster, as a solution file",
-    )
-    options.add_argument(
-        "--new-period", action="store_true", help="the next week is the first of a new period"
-    )
-    options.add_argument(
-        "--out", metavar="FILE", type=Path, help="write to this file, not to standard output"
-    )
+    options.add_file("--sce", "the scenario", required=True)
+    options.add_file("--his", "the history with which the week began", required=True)
+    options.add_file("--roster", "the week's roster, as a solution file", required=True)
+    options.add_flag("--new-period", "the next week is the first of a new period")
+    options.add_out()
     return options
 
 
@@ -213,21 +185,9 @@ def _fits_options() -> Parser:
         ),
         "fits",
     )
-    options.add_argument("--sce", metavar="FILE", type=Path, required=True, help="the scenario")
-    options.add_argument(
-        "--his",
-        metavar="FILE",
-        type=Path,
-        required=True,
-        help="the history with which the week begins",
-    )
-    options.add_argument(
-        "--week",
-        metavar="FILE",
-        type=Path,
-        required=True,
-        help="the requirements and requests of the week",
-    )
+    options.add_file("--sce", "the scenario", required=True)
+    options.add_file("--his", "the history with which the week begins", required=True)
+    options.add_file("--week", "the requirements and requests of the week", required=True)
     add_given_option(options)
     return options
 
@@ -262,7 +222,7 @@ def _results_options() -> Parser:
         "a file that `parallel --joblog` has written: the seconds of job N are those of the report"
         " whose name ends with N"
     )
-    options.add_argument("--joblog", metavar="FILE", type=Path, help=seconds)
+    options.add_file("--joblog", seconds)
     return options
 
 

@@ -21,7 +21,7 @@ from ..week.faults import Misuse, not_obeyed
 from ..week.writing import check_inputs_stay, write_text
 from .arguments import Parser, parser
 from .command import print_painted
-from .week_options import add_given_option, add_rosters_option, fix_files
+from .week_options import add_given_option, fix_files
 
 
 def options() -> Parser:
@@ -36,40 +36,27 @@ def options() -> Parser:
         ),
         "show",
     )
-    add_rosters_option(shown, "a roster of each week, in order, as a solution file", required=True)
-    shown.add_argument(
-        "--sce", metavar="FILE", type=Path, help="the scenario: nurses and colors have its order"
+    shown.add_files(
+        "--roster", "a roster of each week, in order, as a solution file", required=True
     )
+    shown.add_file("--sce", "the scenario: nurses and colors have its order")
     histories = "the history with which the first week begins, or each week; needs --sce and --week"
-    shown.add_argument(
-        "--his", metavar="FILE", type=Path, nargs="+", action="extend", default=[], help=histories
-    )
+    shown.add_files("--his", histories)
     weeks = (
         "the requirements and requests of each week, in order: a cell that should be free has a"
         f" {REFUSED}, of a nurse who is away a {AWAY}"
     )
-    shown.add_argument(
-        "--week", metavar="FILE", type=Path, nargs="+", action="extend", default=[], help=weeks
-    )
+    shown.add_files("--week", weeks)
     held = (
         f"assignments that are held: their cells have a {HELD}; of week N of several as N=FILE,"
         " where N is 1 for the first roster"
     )
-    shown.add_argument("--fix", metavar="[N=]FILE", action="append", default=[], help=held)
+    shown.add_fix(held)
     add_given_option(shown)
-    shown.add_argument(
-        "--reasons",
-        metavar="FILE",
-        type=Path,
-        help="why nurses are away, as `inrc2pb-plan FOLDER files` writes it",
-    )
-    shown.add_argument(
-        "--early", action="store_true", help="count costs as inrc2pb does with --early"
-    )
+    shown.add_file("--reasons", "why nurses are away, as `inrc2pb-plan FOLDER files` writes it")
+    shown.add_flag("--early", "count costs as inrc2pb does with --early")
     old = "an older roster of each week: what has changed"
-    shown.add_argument(
-        "--old", metavar="FILE", type=Path, nargs="+", action="extend", default=[], help=old
-    )
+    shown.add_files("--old", old)
     shown.add_argument(
         "--monday",
         metavar="DATE",
@@ -80,20 +67,13 @@ def options() -> Parser:
         " be repeated"
     )
     shown.add_argument("--times", metavar="SHIFT=TIMES", action="append", default=[], help=times)
-    shown.add_argument(
-        "--ics",
-        metavar="FOLDER",
-        type=Path,
-        help="also write a calendar for each nurse; needs --monday",
+    shown.add_file(
+        "--ics", "also write a calendar for each nurse; needs --monday", metavar="FOLDER"
     )
-    shown.add_argument(
-        "--only-table",
-        action="store_true",
-        help="with --html: no costs, totals and wishes, for a page on the wall",
+    shown.add_flag(
+        "--only-table", "with --html: no costs, totals and wishes, for a page on the wall"
     )
-    shown.add_argument(
-        "--out", metavar="FILE", type=Path, help="write to this file, not to standard output"
-    )
+    shown.add_out()
     form = shown.add_mutually_exclusive_group()
     form.add_argument(
         "--html",

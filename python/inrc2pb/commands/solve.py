@@ -20,7 +20,6 @@ from . import competition
 from .arguments import Parser, parser
 from .week_options import (
     add_given_option,
-    add_rosters_option,
     add_solver_option,
     add_weeks_options,
     check_seconds,
@@ -52,30 +51,26 @@ def _options() -> Parser:
     )
     add_weeks_options(options)
     add_given_option(options)
-    options.add_argument(
+    options.add_file(
         "--out",
-        metavar="PATH",
-        type=Path,
-        required=True,
-        help=(
+        (
             "the roster to write, or the folder for rosters and histories; the search begins with"
             " rosters of these weeks that are there, so it never gets worse ones"
         ),
+        required=True,
+        metavar="PATH",
     )
-    add_rosters_option(
-        options,
+    options.add_files(
+        "--roster",
         (
             "a roster of each week, in order, to begin with (default: those of --out, if they are"
             " of these weeks)"
         ),
     )
-    options.add_argument(
+    options.add_flag(
         "--ahead",
-        action="store_true",
-        help=(
-            "plan for the later weeks too: they are not known, and count with the numbers of these"
-            " weeks"
-        ),
+        "plan for the later weeks too: they are not known, and count with the numbers of these"
+        " weeks",
     )
     options.add_argument(
         "--time",
@@ -86,11 +81,8 @@ def _options() -> Parser:
             f" {WEEK_SECONDS:.0f} times their number for several)"
         ),
     )
-    options.add_argument(
-        "--proof",
-        metavar="FILE",
-        type=Path,
-        help="the file for the certificate of the lower bound, for inrc2pb-bound",
+    options.add_file(
+        "--proof", "the file for the certificate of the lower bound, for inrc2pb-bound"
     )
     options.add_argument(
         "--seed",
@@ -102,11 +94,7 @@ def _options() -> Parser:
             " (default: 1)"
         ),
     )
-    options.add_argument(
-        "--wait",
-        action="store_true",
-        help="if another search writes the same file, wait until it has ended",
-    )
+    options.add_flag("--wait", "if another search writes the same file, wait until it has ended")
     add_solver_option(options)
     others = options.add_argument_group("other command lines, each with its own --help")
     others.add_argument(
@@ -233,9 +221,7 @@ def model_options() -> Parser:
     """The parser of `--model`."""
     options = parser("Converts the OPB model of a week to an LP file, for a MIP solver.", EXAMPLE)
     options.add_argument("--model", metavar="FILE", nargs="?", type=Path, help=MODEL)
-    options.add_argument(
-        "--out", metavar="FILE", type=Path, help="the LP file to write (default: standard output)"
-    )
+    options.add_file("--out", "the LP file to write (default: standard output)")
     return options
 
 
@@ -259,7 +245,7 @@ def answer_options() -> Parser:
     options = parser(
         "Converts the result file of a MIP solver to an answer, for `inrc2pb decode`.", EXAMPLE
     )
-    options.add_argument("--answer", metavar="FILE", type=Path, required=True, help=ANSWER)
+    options.add_file("--answer", ANSWER, required=True)
     says = (
         "how the solver ended, if its file does not say (Gurobi; default: stopped); with infeasible"
         " the file may be missing"

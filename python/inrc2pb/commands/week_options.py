@@ -5,8 +5,10 @@ import argparse
 import re
 from pathlib import Path
 from typing import Sequence
+
 from ..programs.program import WeekFiles
 from ..week.faults import Misuse
+from .arguments import Parser
 
 
 # The most seconds of a search, and the most faults of a file that are reported together.
@@ -54,68 +56,32 @@ def fix_files(texts: Sequence[str], weeks: int) -> dict[int, Path]:
     return fixes
 
 
-def add_weeks_options(
-    options: argparse.ArgumentParser, required: bool = True, one: bool = False
-) -> None:
+def add_weeks_options(options: Parser, required: bool = True, one: bool = False) -> None:
     """The options that name the files of one or more weeks, as `inrc2pb-bound` has them. With `one`
     a word after the week's file is no second week."""
-    options.add_argument("--sce", metavar="FILE", type=Path, required=required, help="the scenario")
-    options.add_argument(
-        "--his",
-        metavar="FILE",
-        type=Path,
-        required=required,
-        help="the history with which the first week begins",
-    )
-    options.add_argument(
+    options.add_file("--sce", "the scenario", required=required)
+    options.add_file("--his", "the history with which the first week begins", required=required)
+    options.add_files(
         "--week",
-        metavar="FILE",
-        type=Path,
+        "the requirements and requests of each week, in order",
+        required=required,
         nargs=1 if one else "+",
-        action="extend",
-        default=None if required else [],
-        required=required,
-        help="the requirements and requests of each week, in order",
     )
-    options.add_argument(
-        "--fix",
-        metavar="[N=]FILE",
-        action="append",
-        default=[],
-        help=(
-            "assignments to keep, as a solution file: the rows of a roster that are fixed, with"
-            " their number after ASSIGNMENTS; of week N of several as N=FILE, where N is 1 for the"
-            " first week that is given"
-        ),
+    options.add_fix(
+        "assignments to keep, as a solution file: the rows of a roster that are fixed, with"
+        " their number after ASSIGNMENTS; of week N of several as N=FILE, where N is 1 for the"
+        " first week that is given"
     )
-    options.add_argument(
-        "--early",
-        action="store_true",
-        help="charge excess assignments and weekends as soon as they occur",
-    )
+    options.add_flag("--early", "charge excess assignments and weekends as soon as they occur")
 
 
-def add_rosters_option(options: argparse.ArgumentParser, asks: str, required: bool = False) -> None:
-    """The option that names a roster of each week."""
-    options.add_argument(
-        "--roster",
-        metavar="FILE",
-        type=Path,
-        nargs="+",
-        action="extend",
-        default=None if required else [],
-        required=required,
-        help=asks,
-    )
-
-
-def add_given_option(options: argparse.ArgumentParser) -> None:
+def add_given_option(options: Parser) -> None:
     """The option that names the facts that plans keep."""
     asks = "facts about the period to keep: absences, and limits that hold"
     options.add_argument("--given", dest="facts", metavar="FILE", type=Path, help=asks)
 
 
-def add_solver_option(options: argparse.ArgumentParser) -> None:
+def add_solver_option(options: Parser) -> None:
     """The option that names a solver for whole weeks."""
     solver = (
         "clasp, cbc, or a command that solves the whole week in place of this search, with {opb} or"
