@@ -9,7 +9,7 @@ import collections
 from dataclasses import replace
 from typing import Collection, Iterable, NamedTuple, Sequence
 
-from ..week.records import DAYS, Absence, Cell, Request, Scenario, WeekData
+from ..week.records import DAYS, WEEK_DAYS, Absence, Cell, Request, Scenario, WeekData, together
 from ..week.slots import MAX_NUMBER
 from ..week.words import joined, plural, readable
 
@@ -22,26 +22,39 @@ ROWS = 9000
 
 def absences_of(data: WeekData) -> frozenset[Absence]:
     """The absences of a week: those of the facts, and those that its file has as requests."""
-    number = collections.Counter(map(_asked, data.requests))
+    number = collections.Counter(map(asked_off, data.requests))
     return data.absences | frozenset(absence for absence, times in number.items() if times >= MARK)
 
 
 def wishes_of(data: WeekData) -> tuple[Request, ...]:
     """The requests that are no absences, in the order of the file."""
     away = absences_of(data)
-    return tuple(request for request in data.requests if _asked(request) not in away)
+    return tuple(request for request in data.requests if asked_off(request) not in away)
 
 
-def _asked(request: Request) -> Absence:
+def wishes_of_weeks(weeks: Iterable[tuple[int, WeekData]]) -> list[Request]:
+    """The same of weeks with these numbers, with the days of the plan."""
+    return [
+        replace(wish, day=WEEK_DAYS * number + wish.day)
+        for number, data in weeks
+        for wish in wishes_of(data)
+    ]
+
+
+def not_granted(wishes: Iterable[Request], cells: Iterable[Cell]) -> list[Request]:
+    """The wishes, each once, that a roster does not grant."""
+    works = {(*cell.nurse_day, shift) for cell in cells for shift in (cell.shift, None)}
+    return [wish for wish in dict.fromkeys(wishes) if asked_off(wish) in works]
+
+
+def asked_off(request: Request) -> Absence:
+    """What a request asks for, as an absence."""
     return Absence(request.nurse, request.day, request.shift)
 
 
 def is_broken_by(absences: Collection[Absence], cell: Cell) -> bool:
     """Whether the nurse of this row is away."""
-    return (
-        Absence(cell.nurse, cell.day, None) in absences
-        or Absence(cell.nurse, cell.day, cell.shift) in absences
-    )
+    return any(Absence(*cell.nurse_day, shift) in absences for shift in (None, cell.shift))
 
 
 def working_while_away(absences: Collection[Absence], cells: Iterable[Cell]) -> list[Cell]:
@@ -52,9 +65,7 @@ def working_while_away(absences: Collection[Absence], cells: Iterable[Cell]) -> 
 def in_words(cells: Iterable[Cell], names: Sequence[str] = DAYS) -> str:
     """Who works when, as `Chen works Late on Fri and Sat, Grace works Night on Sun`. The days of
     the week have these names."""
-    days: dict[tuple[str, str], list[int]] = {}
-    for cell in cells:
-        days.setdefault((cell.nurse, cell.shift), []).append(cell.day)
+    days = together(((cell.nurse, cell.shift), cell.day) for cell in cells)
     return ", ".join(
         f"{readable(nurse)} works {readable(shift)} on {joined(names[day] for day in sorted(on))}"
         for (nurse, shift), on in days.items()
@@ -115,7 +126,7 @@ def with_requests(scenario: Scenario, data: WeekData, added: Iterable[Absence]) 
             absence.shift or "",
         ),
     )
-    wishes = [request for request in wishes_of(data) if _asked(request) not in away]
+    wishes = [request for request in wishes_of(data) if asked_off(request) not in away]
     times = min(MOST_REQUESTS, min(ROWS, MAX_NUMBER - len(wishes)) // max(1, len(away)))
     if times < MARK:
         raise TooMany(

@@ -3,7 +3,7 @@ leave nobody should have a night shift."""
 
 from typing import Collection, Iterator, Mapping, NamedTuple
 
-from ..week.records import History, NurseDay, Scenario
+from ..week.records import History, NurseDay, Scenario, in_a_row
 
 
 class DaysAway(NamedTuple):
@@ -43,22 +43,10 @@ def long_rows(
     for nurse in dict.fromkeys(nurse for nurse, _ in sorted(away.training)):
         most = scenario.contract_of(nurse).working_days.maximum
         past = history.nurses[nurse].working_days
-        for days in _in_a_row({day for who, day in (*works, *away.training) if who == nurse}):
+        for days in in_a_row({day for who, day in (*works, *away.training) if who == nurse}):
             number = len(days) + (past if days[0] == 0 else 0)
             if number > most and any((nurse, day) in away.training for day in days):
                 yield LongRow(nurse, days, number, most)
-
-
-def _in_a_row(days: Collection[int]) -> Iterator[list[int]]:
-    """The days in groups of days that follow one another."""
-    row: list[int] = []
-    for day in sorted(days):
-        if row and day != row[-1] + 1:
-            yield row
-            row = []
-        row.append(day)
-    if row:
-        yield row
 
 
 def nights_before(away: DaysAway, works: Mapping[NurseDay, str]) -> list[NurseDay]:

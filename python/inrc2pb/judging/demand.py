@@ -6,7 +6,7 @@ from fractions import Fraction
 from typing import Collection, Iterator, Mapping, NamedTuple, Sequence
 
 from ..week.facts import SHIFTS
-from ..week.records import DAYS, Absence, Cell, History, Place, Scenario, WeekData
+from ..week.records import DAYS, Absence, Cell, History, Place, Scenario, WeekData, together
 from ..week.soft_rules import ASSIGNMENT_TOTAL, MISSING_NURSE
 from ..week.words import joined
 from .absences import absences_of
@@ -30,22 +30,10 @@ def demand_warnings(
 ) -> Iterator[Warned]:
     """Warnings of days for which no choice of nurses fills all minimum numbers, and of more shifts
     than the contracts supply."""
-    days_of: dict[Warned, list[str]] = {}
-    for day, name in enumerate(DAYS):
-        always = _shortage(scenario, history, data, day, ())
-        there = _shortage(scenario, history, data, day, absences_of(data))
-        if always:
-            days_of.setdefault(
-                Warned(f"{always.text}: {IMPOSSIBLE}: {always.cure}", Reach.NONE), []
-            ).append(name)
-        elif there:
-            unkept = (
-                f"{there.text}: no roster that keeps every absence can meet it: {there.cure}, or"
-                " shorten an absence"
-            )
-            days_of.setdefault(Warned(unkept, Reach.NOT_ALL), []).append(name)
-    for warned, days in days_of.items():
-        yield Warned(f"{joined(days)}: {warned}", warned.reach)
+    short = ((_short_day(scenario, history, data, day), name) for day, name in enumerate(DAYS))
+    for warned, days in together(short).items():
+        if warned:
+            yield Warned(f"{joined(days)}: {warned}", warned.reach)
     asked = asked_shifts(data)
     supplied = supplied_shifts(scenario, history, paid)
     if asked[0] > supplied[1]:
@@ -54,6 +42,23 @@ def demand_warnings(
             f" {supplied[1]} a week"
         )
         yield Warned(f"{supply}: if all weeks ask for so many, each shift above costs points")
+
+
+def _short_day(
+    scenario: Scenario, history: History | None, data: WeekData, day: int
+) -> Warned | None:
+    """That no choice of nurses fills all minimum numbers of a day, with absences or without."""
+    always = _shortage(scenario, history, data, day, ())
+    if always:
+        return Warned(f"{always.text}: {IMPOSSIBLE}: {always.cure}", Reach.NONE)
+    there = _shortage(scenario, history, data, day, absences_of(data))
+    if not there:
+        return None
+    return Warned(
+        f"{there.text}: no roster that keeps every absence can meet it: {there.cure}, or"
+        " shorten an absence",
+        Reach.NOT_ALL,
+    )
 
 
 def asked_shifts(data: WeekData) -> tuple[int, int]:

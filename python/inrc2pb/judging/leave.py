@@ -146,3 +146,10 @@ def part_contract(name: str, contracts: Iterable[str]) -> PartContract | None:
     if not match or match[1] == name or match[1] not in contracts:
         return None
     return PartContract(match[1], int(match[2] or 0), int(match[3] or 0), bool(match[4]))
+
+
+def whole_contract(scenario: Scenario, nurse: str) -> str:
+    """The contract of a nurse, or the one that it is a part of."""
+    name = scenario.nurses[nurse].contract
+    part = part_contract(name, scenario.contracts)
+    return part.whole if part else name

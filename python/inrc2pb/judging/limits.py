@@ -97,7 +97,7 @@ def _with_shifts_left(week: Week, too_many: Sequence[Cell], cells: Sequence[Cell
     """The nurses who could have one of these assignments, since they are off on its day and not
     away, and whose contracts have shifts left after this week; and how many."""
     away = absences_of(week.data)
-    works = {(cell.nurse, cell.day) for cell in cells}
+    works = {cell.nurse_day for cell in cells}
     over = {cell.nurse for cell in too_many}
     for nurse, owner in week.scenario.nurses.items():
         worked = week.history.nurses[nurse].assignments + sum(cell.nurse == nurse for cell in cells)

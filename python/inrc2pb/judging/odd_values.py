@@ -13,6 +13,7 @@ from ..week.records import (
     Requirement,
     Scenario,
     WeekData,
+    together,
 )
 from ..week.slots import is_utf8
 from ..week.words import plural
@@ -157,12 +158,13 @@ def week_warnings(scenario: Scenario, data: WeekData) -> Iterator[Warned]:
         skill: sum(skill in nurse.skills for nurse in scenario.nurses.values())
         for skill in scenario.skills
     }
-    days_of: dict[tuple[str, Warned], list[str]] = {}
-    for place, required in data.requirements.items():
-        warned = _odd_number(required, have[place.skill])
-        if warned:
-            days_of.setdefault((f"{place.shift} {place.skill}", warned), []).append(DAYS[place.day])
-    for (row, warned), days in days_of.items():
+    odd = (
+        ((f"{place.shift} {place.skill}", warned), DAYS[place.day])
+        for place, required in data.requirements.items()
+        for warned in [_odd_number(required, have[place.skill])]
+        if warned
+    )
+    for (row, warned), days in together(odd).items():
         yield Warned(f"{row} on {', '.join(days)}: {warned}", warned.reach)
     yield from map(Warned, _unasked(scenario, data))
 

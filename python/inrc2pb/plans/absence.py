@@ -7,7 +7,7 @@ from typing import Iterable
 from ..judging.leave import ILL, TRAINING
 from ..sheets.written_days import BACK, lost_shifts
 from ..shown.ward_sentences import part_sentences
-from ..week.records import NurseDay
+from ..week.records import NurseDay, together
 from ..week.words import readable
 from .sentences import exceeded_lines
 from .verb import Outcome, Status
@@ -31,7 +31,7 @@ class Away(Outcome):
     def there(self) -> WardPlan:
         """The plan with this, before a search, without the shifts of days away."""
         return self.new.with_cells(
-            cell for cell in self.new.cells if NurseDay(cell.nurse, cell.day) not in self.new.away
+            cell for cell in self.new.cells if cell.nurse_day not in self.new.away
         )
 
     def lines(self, write: str = "") -> list[str]:
@@ -55,11 +55,10 @@ class Away(Outcome):
         nurse = readable(self.nurse)
         if self.word != BACK:
             return [f"{nurse}: {self.word}, {self.old.days.span(self.days)}"]
-        stays: dict[str, list[int]] = {}
-        for day in range(self.days[0], self.new.days.total):
-            stays.setdefault(self.new.away.get(NurseDay(self.nurse, day), ALWAYS_OFF), []).append(
-                day
-            )
+        stays = together(
+            (self.new.away.get(NurseDay(self.nurse, day), ALWAYS_OFF), day)
+            for day in range(self.days[0], self.new.days.total)
+        )
         said = [f"{nurse}: back, {self.old.days.span(self.days)} ({self.was})"]
         away = {word: days for word, days in stays.items() if word not in DAYS_OFF}
         return said + [

@@ -10,7 +10,7 @@ from itertools import permutations
 from typing import Collection, Iterable, Iterator, Mapping, NamedTuple, Sequence
 
 from ..sheets.written_days import BACK, SHEET
-from ..week.records import Cell, NurseDay, Request, Scenario, WeekData
+from ..week.records import Cell, NurseDay, Request, Scenario, WeekData, together
 from ..week.soft_rules import REQUEST
 from .ward import DAYS_OFF, WardPlan
 
@@ -89,7 +89,7 @@ def with_few_changes(
     """The week's file with requests against all shifts on these days, and on agreed days of nurses,
     but those of the old roster. A new nurse may have any shift. The days off `beside` days away
     cost more."""
-    shift_on = {(cell.nurse, cell.day): cell.shift for cell in old}
+    shift_on = {cell.nurse_day: cell.shift for cell in old}
     places = dict.fromkeys(
         (*((nurse, day) for nurse in scenario.nurses if nurse not in new for day in days), *agreed)
     )
@@ -109,10 +109,10 @@ def with_few_changes(
 
 
 def _requests(
-    scenario: Scenario, nurse: str, day: int, shift_on: dict[tuple[str, int], str]
+    scenario: Scenario, nurse: str, day: int, shift_on: dict[NurseDay, str]
 ) -> Iterator[Request]:
     """Who was off is asked to work nothing, who worked to work no other shift type."""
-    old: str | None = shift_on.get((nurse, day))
+    old: str | None = shift_on.get(NurseDay(nurse, day))
     if old is None:
         yield Request(nurse, None, day)
     else:
@@ -143,9 +143,7 @@ def with_old_skills(scenario: Scenario, cells: Sequence[Cell], old: Sequence[Cel
     """The same shifts, each place with as many nurses, and with the skills of the old roster where
     possible."""
     before = {(cell.nurse, cell.day, cell.shift): cell.skill for cell in old}
-    by_shift: dict[tuple[int, str], list[Cell]] = {}
-    for cell in cells:
-        by_shift.setdefault((cell.day, cell.shift), []).append(cell)
+    by_shift = together(((cell.day, cell.shift), cell) for cell in cells)
     return [
         cell for of_shift in by_shift.values() for cell in _labelled(scenario, of_shift, before)
     ]
@@ -173,6 +171,3 @@ def _fitting(scenario: Scenario, cells: list[Cell], skills: list[str]) -> Iterat
     for order in permutations(skills):
         if all(skill in scenario.nurses[cell.nurse].skills for cell, skill in zip(cells, order)):
             yield [cell._replace(skill=skill) for cell, skill in zip(cells, order)]
-
-
-# ---- changes that a plan does not need

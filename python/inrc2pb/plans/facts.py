@@ -5,10 +5,9 @@ They are values; `sentences` has their words. Days are those of the plan, but in
 of one week, which have the days of it.
 """
 
-from dataclasses import replace
 from typing import Iterable, Iterator, Mapping, NamedTuple, Sequence
 
-from ..judging.absences import absences_of, wishes_of, working_while_away
+from ..judging.absences import absences_of, not_granted, wishes_of_weeks, working_while_away
 from ..judging.breaches import breaches
 from ..judging.days_away import DaysAway, long_rows, nights_before
 from ..judging.limits import exceeded
@@ -250,26 +249,20 @@ def beside_of(plan: WardPlan, away: DaysAway, shifts: Mapping[NurseDay, str]) ->
 def sums(plan: WardPlan) -> dict[str, Sums]:
     """What each nurse has in the whole period: in weeks that are over, and in those that are
     planned."""
-    wishes = [
-        replace(wish, day=WEEK_DAYS * number + wish.day)
-        for number, week in enumerate(plan.data)
-        for wish in wishes_of(week)
-    ]
     return sums_of(
-        plan.scenario.nurses, plan.state.cells, wishes, plan.days_away.nights, plan.ward.times
+        plan.scenario.nurses,
+        plan.state.cells,
+        wishes_of_weeks(enumerate(plan.data)),
+        plan.days_away.nights,
+        plan.ward.times,
     )
 
 
 def refused_wishes(plan: WardPlan) -> list[Request]:
     """The wishes of the weeks that are not over that the plan does not grant, with days of the
     plan."""
-    works = {(cell.nurse, cell.day, shift) for cell in plan.cells for shift in (cell.shift, None)}
-    asked = [
-        replace(wish, day=WEEK_DAYS * number + wish.day)
-        for number in plan.weeks
-        for wish in wishes_of(plan.data[number])
-    ]
-    return [wish for wish in dict.fromkeys(asked) if (wish.nurse, wish.day, wish.shift) in works]
+    weeks = ((number, plan.data[number]) for number in plan.weeks)
+    return not_granted(wishes_of_weeks(weeks), plan.cells)
 
 
 def lost_wishes(old: WardPlan | None, new: WardPlan) -> list[Request]:

@@ -5,9 +5,9 @@ Only nurses of the same contract are compared, and only those who may work at ni
 
 from typing import Iterator, Mapping, NamedTuple, Sequence
 
-from ..judging.leave import part_contract
+from ..judging.leave import whole_contract
 from ..judging.rules import SATURDAY
-from ..week.records import WEEK_DAYS, Cell, NurseDay
+from ..week.records import WEEK_DAYS, Cell, together
 from .nurse_weeks import by_nurse
 from .ward import WardPlan
 
@@ -44,7 +44,7 @@ def shares(plan: WardPlan) -> dict[str, Share]:
 
 def shares_before(plan: WardPlan, end: int) -> dict[str, Share]:
     """Those before the day `end`."""
-    works = {NurseDay(cell.nurse, cell.day): cell for cell in plan.state.cells if cell.day < end}
+    works = {cell.nurse_day: cell for cell in plan.state.cells if cell.day < end}
     return {nurse: _share(plan, row) for nurse, row in by_nurse(plan, works).items()}
 
 
@@ -82,11 +82,8 @@ def _spreads(numbers: Mapping[str, Sequence[int]]) -> tuple[Spread, ...]:
 
 def contracts_of(plan: WardPlan) -> dict[str, list[str]]:
     """The nurses of each contract, also those for whom a part of it counts."""
-    owners: dict[str, list[str]] = {}
-    for name, nurse in plan.scenario.nurses.items():
-        part = part_contract(nurse.contract, plan.scenario.contracts)
-        owners.setdefault(part.whole if part else nurse.contract, []).append(name)
-    return owners
+    scenario = plan.scenario
+    return together((whole_contract(scenario, nurse), nurse) for nurse in scenario.nurses)
 
 
 def may_work_nights(plan: WardPlan, nurse: str) -> bool:

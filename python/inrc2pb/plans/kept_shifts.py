@@ -1,10 +1,9 @@
 """What folders of plans say of shifts: the sums of a period, and the days that hung on the wall."""
 
-from dataclasses import replace
 from pathlib import Path
 from typing import Iterable, Sequence
 
-from ..judging.absences import wishes_of
+from ..judging.absences import wishes_of_weeks
 from ..shown.totals import Sums, sums_of
 from ..week.dates import PlanDays
 from ..week.faults import FileFault
@@ -27,11 +26,7 @@ def sums_of_period(period: Period, plan: WardPlan) -> dict[str, Sums]:
         worked = state_of(period).cells
     except (FileFault, OSError):
         return {}
-    wishes = [
-        replace(wish, day=WEEK_DAYS * number + wish.day)
-        for number, week in enumerate(weeks)
-        for wish in wishes_of(week)
-    ]
+    wishes = wishes_of_weeks(enumerate(weeks))
     return sums_of(ward.nurses, worked, wishes, plan.days_away.nights, plan.ward.times)
 
 

@@ -6,7 +6,6 @@ from typing import Mapping, Sequence
 from ..judging.leave import credited
 from ..sheets.ward import Ward
 from ..week.facts import SHIFTS, Charged, Claim
-from ..week.records import NurseDay
 from .state import State
 
 
@@ -36,9 +35,7 @@ def limits_for_leavers(
 def _planned(ward: Ward, state: State, end: int) -> list[str]:
     """The nurse of each shift before the day `end`, but for shifts on days on which she is away."""
     return [
-        cell.nurse
-        for cell in state.cells
-        if cell.day < end and NurseDay(cell.nurse, cell.day) not in ward.reasons
+        cell.nurse for cell in state.cells if cell.day < end and cell.nurse_day not in ward.reasons
     ]
 
 

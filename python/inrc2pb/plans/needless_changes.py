@@ -1,12 +1,12 @@
 """Changes that a plan with few changes does not need: those are taken back whose end costs
 nothing."""
 
-import collections
-import time
-from typing import Callable, Counter, Iterator, Mapping, NamedTuple, Sequence
+from typing import Callable, Iterator, Mapping, NamedTuple, Sequence
 
 from ..judging.obstacles import Obstacle
-from ..week.records import Cell, NurseDay, Place
+from ..judging.rules import numbers
+from ..programs.clock import Clock
+from ..week.records import Cell, NurseDay, in_a_row, together
 from ..week.soft_rules import MISSING_NURSE
 from .changes import (
     CALL_POINTS,
@@ -55,9 +55,7 @@ class _Judge:
 
     def _place_value(self, works: Works) -> _Value:
         """What the places with too few nurses add."""
-        number: Counter[Place] = collections.Counter(
-            Place(cell.day, cell.shift, cell.skill) for cell in works.values()
-        )
+        number = numbers(works.values())
         below = missing = 0
         for place, asked in self._plan.needs.items():
             below += max(0, asked.minimum - number[place])
@@ -109,17 +107,14 @@ class _Judge:
 
 
 def without_needless_changes(
-    old: WardPlan,
-    new: WardPlan,
-    ends: Callable[[], bool] = lambda: False,
-    clock: Callable[[], float] = time.monotonic,
+    old: WardPlan, new: WardPlan, ends: Callable[[], bool] = lambda: False
 ) -> WardPlan:
     """The new plan with shifts of the old one, or of fewer nurses, wherever that is worth it:
     changes of a nurse or of a day are taken back, or given to another nurse, as long as a step
     makes the plan better, each change and each nurse to call counted as a charge, and until it
     `ends`.
     """
-    end = clock() + SECONDS
+    clock = Clock(SECONDS)
     judge = _Judge(old, new)
     works: Works = new.works
     is_better = True
@@ -127,7 +122,7 @@ def without_needless_changes(
     while is_better:
         is_better = False
         for tried in _steps(old.works, works, list(new.scenario.nurses)):
-            if ends() or clock() > end:
+            if ends() or not clock.left():
                 return new.with_cells(works.values())
             worth = judge.value(tried)
             if worth < value:
@@ -143,7 +138,7 @@ def _steps(old: Works, works: Works, nurses: Sequence[str]) -> Iterator[Works]:
     another one, first to one who has to be called already."""
     changes = shift_changes(old.values(), works.values())
     yield from (_taken_back(works, group) for group in _groups(changes))
-    by_nurse = _of_each_nurse(changes)
+    by_nurse = together((change.nurse, change) for change in changes)
     for nurse, of_nurse in by_nurse.items():
         for other in dict.fromkeys((*by_nurse, *nurses)):
             given = _given_to(old, works, of_nurse, other) if other != nurse else None
@@ -180,37 +175,17 @@ def _given_to(
     return given
 
 
-def _of_each_nurse(changes: Sequence[ShiftChange]) -> dict[str, list[ShiftChange]]:
-    by_nurse: dict[str, list[ShiftChange]] = {}
-    for change in changes:
-        by_nurse.setdefault(change.nurse, []).append(change)
-    return by_nurse
-
-
 def _groups(changes: Sequence[ShiftChange]) -> Iterator[list[ShiftChange]]:
     """All changes of a nurse, her days in a row, those of a day, two of a day, and each alone."""
-    by_nurse = _of_each_nurse(changes)
-    by_day = collections.defaultdict(list)
-    for change in changes:
-        by_day[change.day].append(change)
+    by_nurse = together((change.nurse, change) for change in changes)
+    by_day = together((change.day, change) for change in changes)
     yield from by_nurse.values()
     for of_nurse in by_nurse.values():
-        yield from _runs(of_nurse)
+        on = {change.day: change for change in of_nurse}
+        yield from ([on[day] for day in days] for days in in_a_row(on))
     yield from by_day.values()
     for of_day in by_day.values():
         yield from (
             [change, other] for number, change in enumerate(of_day) for other in of_day[:number]
         )
     yield from ([change] for change in changes)
-
-
-def _runs(of_nurse: Sequence[ShiftChange]) -> Iterator[list[ShiftChange]]:
-    """The changes of a nurse on days that follow one another."""
-    run: list[ShiftChange] = []
-    for change in of_nurse:
-        if run and change.day != run[-1].day + 1:
-            yield run
-            run = []
-        run.append(change)
-    if run:
-        yield run

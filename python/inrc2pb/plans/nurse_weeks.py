@@ -95,7 +95,7 @@ class NurseWeeks:
 
     def _cell_faults(self, cell: Cell, before: str | None) -> Iterator[Fault]:
         """Why the nurse cannot have this shift after that of the day before."""
-        place = NurseDay(cell.nurse, cell.day)
+        place = cell.nurse_day
         words = {Obstacle.AWAY: self._plan.away.get(place, ""), Obstacle.SKILL: cell.skill}
         for kind in obstacles(self._plan.scenario, self._plan.absences, cell, before):
             yield Fault(kind, *place, words.get(kind, cell.shift), before or "")

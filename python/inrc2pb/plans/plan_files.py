@@ -237,7 +237,7 @@ def check_readable(folder: Path) -> None:
 
 def _with_shifts(set_days: Sequence[SetDay], cells: Sequence[Cell]) -> Tuple[SetDay, ...]:
     """The days that were set, those of an older version with the shifts of the rosters."""
-    works = {NurseDay(cell.nurse, cell.day): cell for cell in cells}
+    works = {cell.nurse_day: cell for cell in cells}
     pairs = ((promise, works.get(promise.place)) for promise in set_days)
     return tuple(
         (

@@ -8,7 +8,7 @@ from ..sheets.week_rows import WeekRow
 from ..shown.changes import change_text, shifts_text
 from ..shown.why import in_words as charge_text
 from ..week.dates import PlanDays
-from ..week.records import WEEK_DAYS, Cell, NurseDay
+from ..week.records import WEEK_DAYS, Cell, NurseDay, together
 from ..week.soft_rules import RULES
 from ..week.words import OFF, joined, plural, quoted, readable, wish_text
 from .changes import ShiftChange, called
@@ -220,10 +220,8 @@ def _to_most(fewest: int, most: int) -> str:
 
 def anew_lines(rows: Iterable[WeekRow], days: PlanDays) -> Iterator[str]:
     """That the weeks of these rows count anew in a period of these days, a line for each week."""
-    numbers_of: dict[int, list[str]] = {}
-    for row in sorted(rows, key=lambda row: (row.week, row.number)):
-        numbers_of.setdefault(row.week, []).append(str(row.number))
-    for week, numbers in numbers_of.items():
+    ordered = sorted(rows, key=lambda row: (row.week, row.number))
+    for week, numbers in together((row.week, str(row.number)) for row in ordered).items():
         named = f"row{'s' if len(numbers) > 1 else ''} {joined(numbers)}"
         span = (
             f", now {days.span([WEEK_DAYS * week, WEEK_DAYS * week + WEEK_DAYS - 1])}"

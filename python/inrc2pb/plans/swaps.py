@@ -6,10 +6,10 @@ limits that hold, and what is wrong beside their days away. A day that is set is
 the places that the nurse leaves and takes.
 """
 
-from collections import Counter
 from typing import Iterator, NamedTuple, Sequence
 
 from ..judging.obstacles import Obstacle
+from ..judging.rules import numbers
 from ..week.records import Cell, NurseDay, Place, exchanged
 from ..week.soft_rules import MISSING_NURSE
 from .nurse_weeks import Fault, NurseCells, NurseWeeks, by_nurse
@@ -70,7 +70,7 @@ class Swaps:
         self._costs = {
             nurse: self._alone.cost(nurse, cells) for nurse, cells in self._cells.items()
         }
-        self._number = Counter(Place(*cell[1:]) for cell in plan.cells)
+        self._number = numbers(plan.cells)
 
     def works(self, nurse: str, day: int) -> Cell | None:
         """The nurse's shift on a day, if she has one."""

@@ -1,6 +1,5 @@
 """A plan of a ward: what its spreadsheet says now, and what verbs have made of it."""
 
-import itertools
 from dataclasses import dataclass, replace
 from functools import cached_property
 from typing import Iterable, Sequence
@@ -29,7 +28,9 @@ from ..week.records import (
     Scenario,
     Week,
     WeekData,
+    in_a_row,
     in_week,
+    together,
 )
 from ..week.words import OFF, readable
 from .fits import check_days, check_names
@@ -165,16 +166,12 @@ class WardPlan:
     @cached_property
     def works(self) -> dict[NurseDay, Cell]:
         """The shift of each nurse's day in the weeks that are not over."""
-        return {NurseDay(cell.nurse, cell.day): cell for cell in self.cells}
+        return {cell.nurse_day: cell for cell in self.cells}
 
     @cached_property
     def held(self) -> dict[NurseDay, Cell]:
         """The shifts of the weeks that are not over that the sheet plan fixes."""
-        return {
-            NurseDay(cell.nurse, cell.day): cell
-            for cell in self.ward.held
-            if cell.day >= self.first
-        }
+        return {cell.nurse_day: cell for cell in self.ward.held if cell.day >= self.first}
 
     @cached_property
     def shifts(self) -> dict[NurseDay, str]:
@@ -326,16 +323,17 @@ def _with_lost_shifts(ward: Ward, state: State) -> tuple[DayWord, ...]:
     from a plan on the wall, if it takes some."""
     known = {(absence.nurse, absence.day) for absence in state.absences}
     words = list(state.absences)
-    works = {(cell.nurse, cell.day) for cell in state.cells}
-    ill = sorted(
-        place for place, word in ward.reasons.items() if word == ILL and place not in known
+    works = {cell.nurse_day for cell in state.cells}
+    ill = together(
+        place
+        for place, word in sorted(ward.reasons.items())
+        if word == ILL and place not in known and state.published
     )
-    rows = itertools.groupby(
-        enumerate(ill), key=lambda pair: (pair[1].nurse, pair[1].day - pair[0])
-    )
-    for row in ([place for _, place in pairs] for _, pairs in rows if state.published):
-        if any(place in works for place in row):
-            words += [DayWord(*place, SHEET, int(place in works)) for place in row]
+    for nurse, days in ill.items():
+        for row in in_a_row(days):
+            lost = [int((nurse, day) in works) for day in row]
+            if any(lost):
+                words += [DayWord(nurse, day, SHEET, took) for day, took in zip(row, lost)]
     return tuple(words)
 
 

@@ -57,7 +57,7 @@ def _rows(
         return
     away = {NurseDay(one.nurse, WEEK_DAYS * (one.week - 1) + one.day): words[one] for one in words}
     before = _cells([planned.get((period.number, week)) for week in range(state.open_week)])
-    works = {NurseDay(cell.nurse, cell.day): cell for cell in state.cells}
+    works = {cell.nurse_day: cell for cell in state.cells}
     order = {nurse: number for number, nurse in enumerate(ward.nurses)}
     places = sorted(
         (place for place in {*works, *before, *away} if place.day < state.first),

@@ -1,13 +1,22 @@
 """The weeks of a ward, from the sheets needs and plan of a spreadsheet."""
 
-import itertools
 import re
 from typing import Dict, Iterator, List, NamedTuple, Optional, Set, Tuple
 
 from ..judging.obstacles import Obstacle, obstacles
 from ..week.facts import WORK_DAYS
 from ..week.faults import Gathering
-from ..week.records import DAYS, Absence, Cell, Place, Request, Requirement, Scenario, in_plan
+from ..week.records import (
+    DAYS,
+    Absence,
+    Cell,
+    Place,
+    Request,
+    Requirement,
+    Scenario,
+    in_a_row,
+    in_plan,
+)
 from ..week.slots import MAX_NUMBER
 from ..week.words import readable
 from .plan_days import NO_WEEK, Days, week_of_row
@@ -320,13 +329,7 @@ def held_warnings(ward: WardTables, weeks: List[WeekSheet], days: Days) -> Itera
         (name, ward.scenario.contract_of(name)) for name in ward.scenario.nurses
     ):
         most = contract.working_days.maximum
-        held_days = sorted(cell.day for cell in held if cell.nurse == nurse)
-        rows = [
-            [day for _, day in row]
-            for _, row in itertools.groupby(
-                enumerate(held_days), key=lambda pair: pair[1] - pair[0]
-            )
-        ]
+        rows = in_a_row([cell.day for cell in held if cell.nurse == nurse])
         if WORK_DAYS in ward.kept[ward.scenario.nurses[nurse].contract]:
             for row in (row for row in rows if len(row) > most):
                 what = (

@@ -32,6 +32,7 @@ from ..week.records import (
     WeekData,
     in_plan,
     in_week,
+    together,
 )
 from ..week.slots import MAX_NUMBER
 from .odd_tables import book_warnings, skill_warnings, ward_warnings
@@ -275,15 +276,15 @@ def _odd_weeks(ward: Ward) -> Tuple[List[str], Reach]:
     """What is odd in what weeks need, and what plans can reach."""
     history = credited(ward.past, ward.counted)
     datas = [ward.given(number) for number in range(len(ward.weeks))]
-    odd: Dict[Warned, List[int]] = {}
-    for number, data in enumerate(datas):
-        past = None if number else history
-        paid = [ward.counted.of_week(later) for later in range(number, len(datas))]
+    paid = [ward.counted.of_week(number) for number in range(len(datas))]
+    odd: Dict[Warned, List[int]] = together(
+        (line, number)
+        for number, data in enumerate(datas)
         for line in (
             *week_warnings(ward.scenario, data),
-            *demand_warnings(ward.scenario, past, data, paid),
-        ):
-            odd.setdefault(line, []).append(number)
+            *demand_warnings(ward.scenario, None if number else history, data, paid[number:]),
+        )
+    )
     supply = list(supply_warnings(ward.scenario, history, datas))
     lines = [
         f"sheet needs, {ward.days.weeks_text(numbers)}: {line}" for line, numbers in odd.items()

@@ -9,6 +9,7 @@ from pathlib import Path
 from typing import Collection, Iterable, Iterator, Mapping, NamedTuple, Sequence
 
 from ..week.dates import DAY, Times
+from ..week.records import in_plan, together
 from ..week.writing import write_own_text
 from .markup import allowed
 from .roster_view import ShownCell, RosterView
@@ -35,11 +36,9 @@ def issue_now(before: Mapping[str, Collection[datetime.date]]) -> Issue:
 
 def shift_dates(view: RosterView, monday: datetime.date) -> dict[str, list[datetime.date]]:
     """The dates of each nurse's shifts."""
-    dates: dict[str, list[datetime.date]] = {}
-    for index, week in enumerate(view.weeks):
-        for cell in week.cells:
-            dates.setdefault(cell.nurse, []).append(monday + (7 * index + cell.day) * DAY)
-    return dates
+    return together(
+        (cell.nurse, monday + cell.day * DAY) for cell in in_plan(week.cells for week in view.weeks)
+    )
 
 
 def _text(value: str) -> str:

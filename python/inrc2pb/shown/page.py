@@ -1,9 +1,10 @@
 """A roster as one HTML page, to print or to read on a screen. It needs no network and no script."""
 
-from typing import Iterator
+from typing import Iterator, Sequence
 
 from ..judging.rules import Charge, cost_by_rule
 from ..week.dates import date_text
+from ..week.records import together
 from ..week.soft_rules import RULES
 from ..week.words import plural, readable
 from .markup import Markup, element, joined
@@ -151,33 +152,34 @@ def _charge(page: Content, week: int, charge: Charge) -> Markup:
     return element("li", f"{charge.cost} ({charge.rule}) {words}")
 
 
-def _foldable(name: str, charged: list[Charge], items: list[Markup]) -> Markup:
-    """The charges of a nurse, or of the places. They are open, so that they are printed."""
-    cost = sum(charge.cost for charge in charged)
+def _foldable(page: Content, name: str, charged: Sequence[tuple[int, Charge]]) -> Markup:
+    """The charges of weeks to a nurse, or to the places. They are open, so that they are
+    printed."""
+    costs = cost_by_rule(charge for _, charge in charged)
     summary = element(
-        "summary", element("b", name), f": {cost} ({costs_text(cost_by_rule(charged))})"
+        "summary", element("b", name), f": {sum(costs.values())} ({costs_text(costs)})"
     )
+    items = (_charge(page, week, charge) for week, charge in charged)
     return element("details", summary, element("ul", *items), open="")
 
 
 def charges_section(page: Content) -> Markup:
     """What the roster is charged, by nurse."""
     view = page.view
-    charged: dict[str | None, list[Charge]] = {}
-    items: dict[str | None, list[Markup]] = {}
-    for index, week in enumerate(view.weeks):
-        for charge in week.charges or ():
-            charged.setdefault(charge.nurse, []).append(charge)
-            items.setdefault(charge.nurse, []).append(_charge(page, index, charge))
+    charged = together(
+        (charge.nurse, (index, charge))
+        for index, week in enumerate(view.weeks)
+        for charge in week.charges or ()
+    )
     folds = [
-        _foldable(readable(nurse), charged[nurse], items[nurse])
+        _foldable(page, readable(nurse), charged[nurse])
         for nurse in view.nurses
         if nurse in charged
     ]
     if None in charged:
-        folds.append(_foldable("Places with fewer nurses than best", charged[None], items[None]))
+        folds.append(_foldable(page, "Places with fewer nurses than best", charged[None]))
     free = [readable(nurse) for nurse in view.nurses if nurse not in charged]
-    rules = sorted({charge.rule for of_nurse in charged.values() for charge in of_nurse})
+    rules = sorted({charge.rule for of_nurse in charged.values() for _, charge in of_nurse})
     lines = [element("p", line) for line in view.without_costs()]
     if free and view.has_costs:
         lines.append(element("p", f"Nothing is charged to {', '.join(free)}."))

@@ -7,10 +7,10 @@ from functools import cached_property
 from typing import Callable, Iterable, Iterator, Mapping, NamedTuple, Sequence
 
 from ..judging import rules
-from ..judging.absences import absences_of, is_broken_by
+from ..judging.absences import absences_of, asked_off, is_broken_by
 from ..judging.breaches import Breach, breaches
 from ..judging.limits import exceeded, limits_in_words
-from ..week.records import DAYS, Absence, Cell, Place, Requirement, Week, WeekData, week_name
+from ..week.records import DAYS, Absence, Cell, Place, Week, WeekData, together, week_name
 from ..week.soft_rules import SOFT_RULES
 from ..week.words import plural
 
@@ -56,7 +56,7 @@ class WeekView:
     def marks(self, cell: Cell) -> str:
         """The marks of an assignment."""
         away = is_broken_by(self.absences, cell)
-        wish = AWAY if away else REFUSED if self._is_refused(cell) else ""
+        wish = AWAY if away else REFUSED if is_broken_by(self._asked, cell) else ""
         return f"{HELD if cell in self._held else ''}{wish}"
 
     @cached_property
@@ -69,20 +69,9 @@ class WeekView:
         return absences_of(self.data) if self.data else frozenset()
 
     @cached_property
-    def _asked(self) -> frozenset[object]:
-        """The nurses, days and shift types of the requests; None is any shift type."""
-        return (
-            frozenset((request.nurse, request.day, request.shift) for request in self.data.requests)
-            if self.data
-            else frozenset()
-        )
-
-    def _is_refused(self, cell: Cell) -> bool:
-        return (cell.nurse, cell.day, cell.shift) in self._asked or (
-            cell.nurse,
-            cell.day,
-            None,
-        ) in self._asked
+    def _asked(self) -> frozenset[Absence]:
+        """What the requests ask for."""
+        return frozenset(map(asked_off, self.data.requests) if self.data else ())
 
     @cached_property
     def breaches(self) -> list[Breach]:
@@ -174,14 +163,12 @@ class RosterView:
     credit: Mapping[str, int] = field(default_factory=dict)
 
     @cached_property
-    def _cells(self) -> dict[object, list[ShownCell]]:
-        cells: dict[object, list[ShownCell]] = {}
-        for index, week in enumerate(self.weeks):
-            for row in week.cells:
-                cells.setdefault((index, row.nurse, row.day), []).append(
-                    ShownCell(row.shift, row.skill, week.marks(row))
-                )
-        return cells
+    def _cells(self) -> dict[tuple[int, str, int], list[ShownCell]]:
+        return together(
+            ((index, *row.nurse_day), ShownCell(row.shift, row.skill, week.marks(row)))
+            for index, week in enumerate(self.weeks)
+            for row in week.cells
+        )
 
     @property
     def title(self) -> str:
@@ -285,16 +272,19 @@ class Covered(NamedTuple):
         return max(self.minimum, self.optimal)
 
 
+def _covered(week: Week, number: Mapping[Place, int], place: Place) -> Covered:
+    """A place with this number of nurses at each."""
+    need = week.data.needed(place)
+    return Covered(number[place], need.minimum, need.optimal)
+
+
 def coverage(week: Week, cells: Iterable[Cell]) -> list[tuple[str, str, list[Covered]]]:
     """The shift types and skills that are needed or filled, each with its seven days."""
     number = rules.numbers(cells)
     covered = []
     for shift, skill in itertools.product(week.scenario.shift_types, week.scenario.skills):
         places = [Place(day, shift, skill) for day in range(7)]
-        needs = [week.data.requirements.get(place, Requirement(0, 0)) for place in places]
-        days = [
-            Covered(number[place], need.minimum, need.optimal) for place, need in zip(places, needs)
-        ]
+        days = [_covered(week, number, place) for place in places]
         if any(any(day) for day in days):
             covered.append((shift, skill, days))
     return covered
@@ -305,13 +295,13 @@ def missing_nurses(week: Week, cells: Iterable[Cell]) -> Iterator[str]:
     number = rules.numbers(cells)
     for day, name in enumerate(DAYS):
         places = []
-        for place, required in week.data.requirements.items():
-            wanted = max(required.minimum, required.optimal)
-            if place.day == day and number[place] < wanted:
-                minimum = (
-                    f", at least {required.minimum}" if number[place] < required.minimum else ""
+        for place in week.data.requirements:
+            has = _covered(week, number, place)
+            if place.day == day and has.number < has.wanted:
+                minimum = f", at least {has.minimum}" if has.number < has.minimum else ""
+                places.append(
+                    f"{place.shift} {place.skill} ({has.number} of {has.wanted}{minimum})"
                 )
-                places.append(f"{place.shift} {place.skill} ({number[place]} of {wanted}{minimum})")
         if places:
             yield f"missing on {name}: {', '.join(places)}"
 
@@ -323,10 +313,8 @@ def spare_nurses(week: Week, cells: Iterable[Cell]) -> Iterator[str]:
     for day, name in enumerate(DAYS):
         places = []
         for shift, skill in itertools.product(week.scenario.shift_types, week.scenario.skills):
-            place = Place(day, shift, skill)
-            required = week.data.requirements.get(place, Requirement(0, 0))
-            wanted = max(required.minimum, required.optimal)
-            if number[place] > wanted:
-                places.append(f"{shift} {skill} ({number[place]} of {wanted})")
+            has = _covered(week, number, Place(day, shift, skill))
+            if has.number > has.wanted:
+                places.append(f"{shift} {skill} ({has.number} of {has.wanted})")
         if places:
             yield f"too many on {name}: {', '.join(places)}"

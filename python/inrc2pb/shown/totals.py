@@ -5,10 +5,10 @@ import collections
 import datetime
 from typing import Collection, Iterable, Mapping, NamedTuple, Sequence
 
-from ..judging.absences import wishes_of
+from ..judging.absences import not_granted, wishes_of
 from ..judging.rules import SATURDAY, SUNDAY
 from ..week.dates import Times
-from ..week.records import DAYS, Cell, Limits, Request
+from ..week.records import DAYS, Cell, Limits, Request, together
 from .roster_view import RosterView, WeekView
 
 
@@ -58,12 +58,9 @@ LEGEND = (
 
 def wishes_by_nurse(week: WeekView, index: int) -> dict[str, list[Wish]]:
     """The wishes of a week, each once."""
-    works = {(row.nurse, row.day, shift) for row in week.cells for shift in (row.shift, None)}
-    wishes: dict[str, list[Wish]] = {}
-    for request in dict.fromkeys(wishes_of(week.data)) if week.data else ():
-        refused = (request.nurse, request.day, request.shift) in works
-        wishes.setdefault(request.nurse, []).append(Wish(index, request, not refused))
-    return wishes
+    wishes = dict.fromkeys(wishes_of(week.data) if week.data else ())
+    refused = not_granted(wishes, week.cells)
+    return together((wish.nurse, Wish(index, wish, wish not in refused)) for wish in wishes)
 
 
 def totals(view: RosterView) -> dict[str, Totals] | None:
@@ -75,9 +72,7 @@ def totals(view: RosterView) -> dict[str, Totals] | None:
     number = collections.Counter(
         (row.nurse, row.shift) for week in view.weeks for row in week.cells
     )
-    days: dict[str, list[int]] = {}
-    for row in last.cells:
-        days.setdefault(row.nurse, []).append(row.day)
+    days = together((row.nurse, row.day) for row in last.cells)
     by_nurse = {}
     for nurse in view.nurses:
         past = last.week.history.nurses[nurse]
@@ -155,7 +150,7 @@ def sum_heads(has_times: bool) -> list[str]:
 
 def sums_of(
     nurses: Iterable[str],
-    cells: Iterable[Cell],
+    cells: Sequence[Cell],
     wishes: Iterable[Request],
     nights: Collection[str],
     times: Mapping[str, Times],
@@ -165,13 +160,11 @@ def sums_of(
     rows: dict[str, dict[int, str]] = {nurse: {} for nurse in nurses}
     for cell in cells:
         rows.setdefault(cell.nurse, {})[cell.day] = cell.shift
-    asked: dict[str, list[Request]] = {}
-    for wish in dict.fromkeys(wishes):
-        asked.setdefault(wish.nurse, []).append(wish)
-    sums = {}
-    for nurse, row in rows.items():
-        mine = asked.get(nurse, [])
-        sums[nurse] = Sums(
+    asked = set(wishes)
+    wished = collections.Counter(wish.nurse for wish in asked)
+    refused = collections.Counter(wish.nurse for wish in not_granted(asked, cells))
+    return {
+        nurse: Sums(
             shifts=len(row),
             hours=sum(
                 (times[shift].length for shift in row.values() if shift in times),
@@ -179,10 +172,8 @@ def sums_of(
             ),
             nights=sum(shift in nights for shift in row.values()),
             weekends=len({day // len(DAYS) for day in row if day % len(DAYS) >= SATURDAY}),
-            wishes=len(mine),
-            granted=sum(
-                row.get(wish.day) is None or wish.shift not in (None, row[wish.day])
-                for wish in mine
-            ),
+            wishes=wished[nurse],
+            granted=wished[nurse] - refused[nurse],
         )
-    return sums
+        for nurse, row in rows.items()
+    }

@@ -1,25 +1,24 @@
 """A ward and its history in sentences, to be read by whoever knows the ward. Nurses with the same
 numbers share a sentence."""
 
-from typing import Iterable, Iterator, TypeVar
+from typing import Iterable, Iterator
 
 from ..judging.demand import Paid, asked_shifts, supplied_shifts
-from ..judging.leave import Counted, PartContract, part_contract
+from ..judging.leave import Counted, PartContract, part_contract, whole_contract
 from ..week.facts import SHIFTS, WEEKENDS, WORK_DAYS
-from ..week.records import DAYS, Contract, History, Limits, NurseHistory, Scenario, WeekData
+from ..week.records import (
+    DAYS,
+    Contract,
+    History,
+    Limits,
+    NurseHistory,
+    Scenario,
+    WeekData,
+    together,
+)
 from ..week.words import joined, plural
 
 _LIMITS = {SHIFTS: "shift", WORK_DAYS: "working day", WEEKENDS: "weekend"}
-_Key = TypeVar("_Key")
-_Value = TypeVar("_Value")
-
-
-def together(pairs: Iterable[tuple[_Key, _Value]]) -> dict[_Key, list[_Value]]:
-    """The values of each key, in their order."""
-    values_of: dict[_Key, list[_Value]] = {}
-    for key, value in pairs:
-        values_of.setdefault(key, []).append(value)
-    return values_of
 
 
 def ward_sentence(scenario: Scenario) -> str:
@@ -61,12 +60,8 @@ def _owners(scenario: Scenario) -> dict[str, list[str]]:
     """The nurses of each contract that is no part of another one, also those for whom a part of it
     counts."""
     wholes = [name for name in scenario.contracts if not part_contract(name, scenario.contracts)]
-    parts = {nurse: _part(scenario, nurse) for nurse in scenario.nurses}
-    of_nurse = {
-        nurse: part.whole if part else scenario.nurses[nurse].contract
-        for nurse, part in parts.items()
-    }
-    return {name: [nurse for nurse, whole in of_nurse.items() if whole == name] for name in wholes}
+    owners = together((whole_contract(scenario, nurse), nurse) for nurse in scenario.nurses)
+    return {name: owners.get(name, []) for name in wholes}
 
 
 def _contract_text(contract: Contract, scenario: Scenario) -> str:

@@ -3,10 +3,19 @@ shifts. Equal days share a sentence."""
 
 from typing import Callable, Collection, Iterable, Iterator, Mapping, NamedTuple, Sequence
 
-from ..judging.absences import absences_of, wishes_of
-from ..week.records import DAYS, WEEK_DAYS, Cell, Place, Requirement, Scenario, WeekData
+from ..judging.absences import absences_of, wishes_of_weeks
+from ..week.records import (
+    DAYS,
+    WEEK_DAYS,
+    Cell,
+    Place,
+    Requirement,
+    Scenario,
+    WeekData,
+    in_plan,
+    together,
+)
 from ..week.words import joined
-from .ward_sentences import together
 
 # The reason of nurses who are away without one, that of days on which they are always off, and how
 # sentences on the others begin.
@@ -78,12 +87,7 @@ def weeks_sentences(
     for reason, label in _REASONS.items():
         yield from _sentence(label, whole.get(reason, ()), days_text)
     yield from _wishes_sentences(scenario, weeks, days_text)
-    held = [
-        cell._replace(day=WEEK_DAYS * index + cell.day)
-        for index, week in enumerate(weeks)
-        for cell in week.held
-    ]
-    yield from held_sentences(held, days_text)
+    yield from held_sentences(in_plan(week.held for week in weeks), days_text)
 
 
 def held_sentences(held: Iterable[Cell], days_text: DaysText = days_of_week) -> Iterator[str]:
@@ -112,13 +116,7 @@ def _wishes_sentences(
     scenario: Scenario, weeks: Sequence[DescribedWeek], days_text: DaysText
 ) -> Iterator[str]:
     """Wishes, and how many equal requests of a file they are."""
-    requests = (
-        (index, request) for index, week in enumerate(weeks) for request in wishes_of(week.data)
-    )
-    wishes = [
-        (request.nurse, request.shift, WEEK_DAYS * index + request.day)
-        for index, request in requests
-    ]
+    wishes = wishes_of_weeks((index, week.data) for index, week in enumerate(weeks))
 
     def days_and_requests(days: Collection[int]) -> str:
         times = f" ({len(days)} requests)" if len(days) > len(set(days)) else ""
@@ -126,10 +124,10 @@ def _wishes_sentences(
 
     for shift in (None, *scenario.shift_types):
         pairs = [
-            (nurse, day)
+            (nurse, wish.day)
             for nurse in scenario.nurses
-            for who, what, day in wishes
-            if (who, what) == (nurse, shift)
+            for wish in wishes
+            if (wish.nurse, wish.shift) == (nurse, shift)
         ]
         yield from _sentence(
             f"Would rather {'be off' if shift is None else f'not work {shift}'}",
@@ -144,10 +142,7 @@ def _needs_sentences(weeks: Sequence[DescribedWeek]) -> Iterator[str]:
         (place.shift, place.skill) for week in weeks for place in week.data.requirements
     ):
         numbers = [
-            [
-                week.data.requirements.get(Place(day, shift, skill), Requirement(0, 0))
-                for day in range(WEEK_DAYS)
-            ]
+            [week.data.needed(Place(day, shift, skill)) for day in range(WEEK_DAYS)]
             for week in weeks
         ]
         usual = max(numbers, key=numbers.count)

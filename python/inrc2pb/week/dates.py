@@ -7,7 +7,7 @@ import re
 from typing import Collection, Iterator, NamedTuple, Sequence
 
 from .faults import Misuse
-from .records import DAYS, WEEK_DAYS, week_name
+from .records import DAYS, WEEK_DAYS, in_a_row, week_name
 from .slots import did_you_mean
 from .words import joined, quoted
 
@@ -265,8 +265,7 @@ class PlanDays(NamedTuple):
 
     def spans(self, days: Collection[int]) -> str:
         """Days in a sentence, those in a row together."""
-        rows = itertools.groupby(enumerate(sorted(days)), key=lambda pair: pair[1] - pair[0])
-        return joined(self.span([day for _, day in row]) for _, row in rows)
+        return joined(map(self.span, in_a_row(days)))
 
     def head(self, day: int) -> str:
         """The day as the head of a column, as `2026-12-04` or `Fri 1`."""

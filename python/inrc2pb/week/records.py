@@ -2,12 +2,14 @@
 has their names."""
 
 from dataclasses import dataclass
-from typing import Iterable, Mapping, NamedTuple, Sequence
+from typing import Collection, Iterable, Mapping, NamedTuple, Sequence, TypeVar
 
 DAYS = ("Mon", "Tue", "Wed", "Thu", "Fri", "Sat", "Sun")
 NONE = "None"
 ANY = "Any"
 WEEK_DAYS = len(DAYS)
+_Key = TypeVar("_Key")
+_Value = TypeVar("_Value")
 
 
 class Limits(NamedTuple):
@@ -159,6 +161,10 @@ class WeekData:
     absences: frozenset[Absence] = frozenset()
     limits: frozenset[KeptLimit] = frozenset()
 
+    def needed(self, place: Place) -> Requirement:
+        """How many nurses a place needs."""
+        return self.requirements.get(place, Requirement(0, 0))
+
 
 class Cell(NamedTuple):
     """A nurse who has a shift with a skill on a day."""
@@ -167,6 +173,11 @@ class Cell(NamedTuple):
     day: int
     shift: str
     skill: str
+
+    @property
+    def nurse_day(self) -> NurseDay:
+        """The nurse's day."""
+        return NurseDay(self.nurse, self.day)
 
     def row(self) -> str:
         """The assignment as a row of a solution file."""
@@ -218,10 +229,7 @@ def in_plan(rosters: Iterable[Sequence[Cell]]) -> tuple[Cell, ...]:
 def exchanged(cells: Iterable[Cell], days: Mapping[NurseDay, NurseDay]) -> list[Cell]:
     """The shifts after nurses' days have got those of other nurses' days, each of which is the key
     of the other."""
-    places = (
-        (cell, days.get(NurseDay(cell.nurse, cell.day), NurseDay(cell.nurse, cell.day)))
-        for cell in cells
-    )
+    places = ((cell, days.get(cell.nurse_day, cell.nurse_day)) for cell in cells)
     return [cell._replace(nurse=place.nurse, day=place.day) for cell, place in places]
 
 
@@ -229,3 +237,20 @@ def week_name(index: int) -> str:
     """A week in words. Everybody counts weeks from 1; only the number of a history, and the names
     of files, count from 0."""
     return f"week {index + 1}"
+
+
+# ---- groups
+
+
+def together(pairs: Iterable[tuple[_Key, _Value]]) -> dict[_Key, list[_Value]]:
+    """The values of each key, in their order."""
+    values_of: dict[_Key, list[_Value]] = {}
+    for key, value in pairs:
+        values_of.setdefault(key, []).append(value)
+    return values_of
+
+
+def in_a_row(days: Collection[int]) -> list[list[int]]:
+    """The days in groups of days that follow one another."""
+    order = enumerate(sorted(days))
+    return list(together((day - number, day) for number, day in order).values())
