@@ -11,7 +11,6 @@ from ..judging.limits import with_given
 from ..judging.next_history import next_history
 from ..judging.obstacles import obstacles
 from ..sheets.ward import Ward
-from ..sheets.ward_sheets import NIGHT
 from ..sheets.written_days import SHEET, DayWord
 from ..shown.roster_view import RosterView, WeekView
 from ..week.dates import PlanDays
@@ -139,9 +138,8 @@ class WardPlan:
 
     @cached_property
     def days_away(self) -> DaysAway:
-        """The days away that concern the days beside them, in the weeks that are not over. Night
-        shifts are known by their times, or else by their names. Here and in `shifts` days count
-        from the first one that is not over."""
+        """The days away that concern the days beside them, in the weeks that are not over. Here and
+        in `shifts` days count from the first one that is not over."""
         training, free = (
             frozenset(
                 NurseDay(place.nurse, place.day - self.first)
@@ -150,13 +148,7 @@ class WardPlan:
             )
             for words in (_TRAINING, _FREE)
         )
-        times = self.ward.times
-        nights = (
-            name
-            for name in self.scenario.shift_types
-            if (times[name].is_night if name in times else NIGHT.search(name))
-        )
-        return DaysAway(training, free, frozenset(nights))
+        return DaysAway(training, free, self.ward.nights)
 
     @cached_property
     def cells(self) -> tuple[Cell, ...]:

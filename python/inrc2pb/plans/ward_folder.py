@@ -31,6 +31,8 @@ UNDONE = "undone"
 LOCK = "lock"
 _SPREADSHEETS = (".ods", ".xlsx")
 _CSV = (".csv", ".tsv")
+# Those that are not read, with macros, of old programs, or of others.
+_OTHER_SPREADSHEETS = (".xls", ".xlsm", ".xlsb", ".xltx", ".ots", ".fods", ".numbers")
 _NAME = re.compile("([0-9]{4,})-.+")
 # Seconds between two looks whether the run that works in the folder has ended.
 _PAUSE = 0.2
@@ -83,6 +85,12 @@ class WardFolder:
             check_inside(path, self.top)
         if tables:
             return spreadsheets[0] if spreadsheets else self.top
+        other = [path.name for path in files if path.suffix.lower() in _OTHER_SPREADSHEETS]
+        if other:
+            raise Misuse(
+                f"{self.top}: {quoted(other)} cannot be read: open it in its program, and save it"
+                " as .xlsx or .ods"
+            )
         raise Misuse(
             f"{self.top} has no spreadsheet: put the ward's .ods or .xlsx file into it, or give a"
             " new folder and `new`"

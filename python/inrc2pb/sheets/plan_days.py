@@ -5,11 +5,11 @@ import datetime
 import re
 from typing import Iterator, List, NamedTuple, Optional
 
-from ..week.dates import DAY, PlanDays, written_dates
+from ..week.dates import DAY, PlanDays, date_without_year, written_dates
 from ..week.records import DAYS, Scenario
 from ..week.slots import MAX_WEEKS
 from ..week.words import plural
-from .sheet_cells import SheetCell
+from .sheet_cells import SheetCell, day_meant
 from .sheet_files import Book
 from .sheet_rows import Table
 
@@ -18,6 +18,7 @@ _OTHER_DATE = re.compile(r"\b([0-9]{1,2})[/-]([0-9]{1,2})[/-]([0-9]{4})\b")
 _SERIAL = re.compile(r"\b[2-9][0-9]{4}\b")
 _FIRST_YEAR = 1954
 _CALENDAR_WEEK = re.compile("cw|kw|calendar", re.IGNORECASE)
+_NAMED_WEEK = re.compile(r"w(?:eek|oche)?\.? ?([0-9]{1,2})", re.IGNORECASE)
 # The week of a row that is for no week of the plan.
 NO_WEEK = -1
 
@@ -104,6 +105,8 @@ def day_of_head(cell: SheetCell) -> int:
     for day, name in enumerate(DAYS):
         if short == name.casefold():
             return day
+    if day_meant(cell.text):
+        cell.fault(f"'{cell.text}' is no day of the week: write {day_meant(cell.text)}")
     whole = ", or whole dates such as 2026-11-30" if re.search("[0-9]", cell.text) else ""
     cell.fault(
         f"'{cell.text}' is no day of the week: write one of {','.join(DAYS)}{whole}, or begin the"
@@ -157,6 +160,18 @@ def _year_first(first: int, second: int, year: int) -> str:
 # ---- weeks of rows of the needs
 
 
+def date_of_row(cell: SheetCell, days: Days) -> Optional[datetime.date]:
+    """The date that a row of the needs has in place of a week, if it has one, also without its
+    year."""
+    date = date_of(cell)
+    if date or days.sheet.monday is None:
+        return date
+    try:
+        return date_without_year(cell.text, days.sheet.monday)
+    except ValueError:
+        cell.fault(f"there is no day {cell.text}: write a date such as {days.sheet.monday}")
+
+
 def week_of_row(cell: SheetCell, days: Days) -> Optional[int]:
     """The week of a row of the needs, from 0, by its number, a calendar week or a date in it; None:
     all weeks; NO_WEEK: a date that is not in the plan, so that the row counts for none of its
@@ -164,7 +179,7 @@ def week_of_row(cell: SheetCell, days: Days) -> Optional[int]:
     if not cell.text:
         return None
     plan = days.plan_days
-    date = date_of(cell)
+    date = date_of_row(cell, days)
     if date and days.monday is None:
         cell.fault(
             f"'{date_shown(cell, date)}' is a date, and the sheet plan has none: write the week's"
@@ -180,13 +195,20 @@ def week_of_row(cell: SheetCell, days: Days) -> Optional[int]:
     if number is None and days.sheet.week_number(cell.text) is not None:
         return NO_WEEK
     if number is None:
-        if not _CALENDAR_WEEK.match(cell.text):
-            cell.number()
         others = (
             ""
             if days.monday is None
             else f", a calendar week such as CW {plan.calendar_week(days.weeks - 1)}, or a date"
         )
+        named = _NAMED_WEEK.fullmatch(cell.text)
+        if named:
+            calendar = f", or CW {named[1]} for the calendar week" if days.monday else ""
+            cell.fault(
+                f"'{cell.text}' is no week: write {named[1]} for the week of the plan{calendar}"
+            )
+        if not cell.text.isdecimal() and not _CALENDAR_WEEK.match(cell.text):
+            dated = f"{others} such as {days.monday}" if days.monday else ""
+            cell.fault(f"'{cell.text}' is no week: write its number in the plan, from 1{dated}")
         cell.fault(
             f"there is no week {cell.text}: weeks are counted from 1, so write {days.weeks} for the"
             f" last one{others}"
@@ -201,10 +223,11 @@ def week_of_row_warnings(table: Table, days: Days) -> Iterator[str]:
     for row in table.rows:
         cell = row.of("week")
         week = week_of_row(cell, days)
-        if week == NO_WEEK and not _is_of_sheet(cell, days.sheet):
+        if week == NO_WEEK and not _is_of_sheet(cell, days):
+            date = date_shown(cell, date_of_row(cell, days))
             yield (
-                f"row {row.number}: {date_shown(cell, date_of(cell))} is not in this plan, so the"
-                " row counts for no week: correct the date, or delete the row"
+                f"row {row.number}: {date} is not in this plan, so the row counts for no week:"
+                " correct the date, or delete the row"
             )
         elif week is not None and week != NO_WEEK and days.monday and cell.text.isdecimal():
             other = plan.week_number(f"CW {cell.text}")
@@ -216,9 +239,9 @@ def week_of_row_warnings(table: Table, days: Days) -> Iterator[str]:
                 )
 
 
-def _is_of_sheet(cell: SheetCell, sheet: PlanDays) -> bool:
+def _is_of_sheet(cell: SheetCell, days: Days) -> bool:
     """Whether the week of a row is of another period of the sheet."""
-    date = date_of(cell)
-    if date is None or sheet.monday is None:
+    date = date_of_row(cell, days)
+    if date is None or days.sheet.monday is None:
         return True
-    return 0 <= (date - sheet.monday).days < sheet.total
+    return 0 <= (date - days.sheet.monday).days < days.sheet.total

@@ -44,9 +44,16 @@ _SAME = {
 }
 _NO_SHIFT = re.compile(r"(not|no)[ _-]*(\S.*)", re.IGNORECASE)
 _PAIR = re.compile(r"\(?([0-9]{1,4}) ?(\+|,|\.\.) ?([0-9]{1,4})\)?")
-_RANGE = re.compile(r"([0-9]{1,4}) ?(?:[-\u2013/.,]|to) ?([0-9]{1,4})")
+# Two numbers with words or signs beside them, as `2-3`, `2 (3)` or `min 2 max 3`.
+_RANGE = re.compile(r"\D*([0-9]{1,4})\D{1,9}([0-9]{1,4})\D*")
 # Half a nurse, or two numbers.
 _DECIMAL = re.compile(r"([0-9]{1,4})[.,]([0-9]{1,4})")
+# A part of a day, by its hours or in words.
+_PART_OF_DAY = re.compile(
+    r"\b(?:am|pm|a\.m\.|p\.m\.|half|halb\w*|morning|afternoon|vormittags?|nachmittags?)\b"
+    r"|\u00bd|\b1/2\b|\b0?[.,]5\b|[0-9]{1,2}(?:[:.][0-9]{2})? ?(?:-|\u2013|to|bis) ?[0-9]{1,2}",
+    re.IGNORECASE,
+)
 # What else may help if a name in the first cell of a row is not known.
 _NO_ROW = ", or delete the row"
 
@@ -255,6 +262,14 @@ def _held(
     others = ("wish", PROMISED_OFF, *AWAY, f"no {readable(next(iter(scenario.shift_types)))}")
     if cell.text.casefold() in _SAME:
         cell.fault(f"'{cell.text}' is no word of the plan: write {_SAME[cell.text.casefold()]}")
+    if _PART_OF_DAY.search(cell.text):
+        words = [word for word in ("leave", "ill", "training") if word in cell.text.casefold()]
+        whole = words[0] if words else "leave"
+        cell.fault(
+            f"'{cell.text}': there are no half days, and no hours of one day: write {whole} if she"
+            f" is away on the whole day, else the shift that she works, such as"
+            f" {readable(_shift_in(cell.text, scenario))}, or nothing"
+        )
     if cell.text.casefold().startswith("wish "):
         rest = cell.text[len("wish ") :]
         cell.fault(
@@ -284,6 +299,14 @@ def _held(
             f"{readable(nurse)} has more than one skill for it: write {example}, for example"
         )
     return Held(Cell(nurse, day, shift, (asked or skills or ("",))[0]), cell)
+
+
+def _shift_in(text: str, scenario: Scenario) -> str:
+    """The shift type whose name is in a text, or else the first one."""
+    names = scenario.shift_types
+    return next(
+        (name for name in names if readable(name).casefold() in text.casefold()), [*names][0]
+    )
 
 
 def check_held(ward: WardTables, weeks: List[WeekSheet]) -> None:

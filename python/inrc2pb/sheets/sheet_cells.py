@@ -5,6 +5,7 @@ import unicodedata
 from typing import Collection, List, NamedTuple, NoReturn, Optional, Sequence
 
 from ..week.faults import FileFault
+from ..week.records import DAYS
 from ..week.slots import MAX_NUMBER, SIGNS, did_you_mean
 from ..week.words import quoted, readable
 from .sheet_files import Book
@@ -13,11 +14,16 @@ from .sheet_files import Book
 _SEVERAL = re.compile(r"[,;/]")
 # Signs without a width, which a text from a page or a message may have.
 _NO_WIDTH = re.compile("[\u200b-\u200d\u2060\ufeff]")
+_DATE = re.compile("[0-9]{4}-[0-9]{2}-[0-9]{2}")
 SUM = re.compile(r"=([0-9]{1,4})\+([0-9]{1,4})")
 # A number with words or a sign, as `ca. 2`, `~2` or `2 nurses`.
 _ABOUT = re.compile(
     r"(?:(?:[^\W\d]+(?:\. ?| ))+|[~<>?\u2264\u2265\u00b1] ?)([0-9]{1,4})|([0-9]{1,4})"
     r" ?(?:[^\W\d]+\.?|[?])"
+)
+# The days of the week in German, short and long.
+_GERMAN = (
+    "mo montag,di dienstag,mi mittwoch,do donnerstag,fr freitag,sa samstag sonnabend,so sonntag"
 )
 # The sign after a maximum that is never exceeded.
 KEPT = "!"
@@ -34,6 +40,15 @@ def about(text: str) -> str:
     else."""
     number = _ABOUT.fullmatch(text)
     return number[1] or number[2] if number else ""
+
+
+def day_meant(text: str) -> str:
+    """The day of the week that a text in German means, with what follows it; nothing if it is none.
+    The short names of other languages contradict these."""
+    word, blank, rest = text.partition(" ")
+    word = word.rstrip(".,").casefold()
+    found = (day for day, names in zip(DAYS, _GERMAN.split(",")) if word in names.split())
+    return next((f"{day}{blank}{rest}" for day in found), "")
 
 
 def letters_of(column: int) -> str:
@@ -55,13 +70,14 @@ class SheetCell(NamedTuple):
     row: int
     column: int
 
+    @property
+    def place(self) -> str:
+        """Where it is, in a sentence."""
+        return f"sheet {self.sheet}, row {self.row}, column {letters_of(self.column)}"
+
     def fault(self, message: str) -> NoReturn:
         """Raises a fault of this cell."""
-        raise FileFault(
-            self.book.path,
-            0,
-            f"sheet {self.sheet}, row {self.row}, column {letters_of(self.column)}: {message}",
-        )
+        raise FileFault(self.book.path, 0, f"{self.place}: {message}")
 
     def parts(self) -> List["SheetCell"]:
         """The cell as several, if it has a list with commas, semicolons or slashes."""
@@ -86,6 +102,11 @@ class SheetCell(NamedTuple):
                     f"'{self.text}' is a sum: write {self.text[1:]} without the sign =, or {total}"
                 )
             return self._replace(text=str(total)).number(default, most)
+        if _DATE.fullmatch(self.text):
+            self.fault(
+                f"a spreadsheet has made the date {self.text} of what was typed, such as 2-3 or"
+                f" 2/3, so write {pair or 'one number'}"
+            )
         digits = re.sub(r"[.,](?!000$)0*$", "", self.text)
         if not re.fullmatch("[0-9]{1,9}", digits):
             otherwise = ", or leave the cell empty" if default is not None else ""

@@ -12,13 +12,23 @@ import struct
 import zipfile
 import zlib
 from pathlib import Path
-from typing import Dict, Mapping, NamedTuple, Sequence
+from typing import Collection, Dict, Mapping, NamedTuple, Sequence
 from xml.etree import ElementTree
 from xml.parsers import expat
 
 from ..week.faults import FileFault
 from . import sheet_ods, sheet_xlsx
-from .sheet_parts import MAX_BYTES, MAX_COLUMNS, MAX_ROWS, Marks, Parts, Rows, trimmed
+from .sheet_parts import (
+    MAX_BYTES,
+    MAX_COLUMNS,
+    MAX_ROWS,
+    Grid,
+    Marks,
+    Merged,
+    Parts,
+    Rows,
+    trimmed,
+)
 
 _SEPARATORS = (";", ",", "\t")
 # The first bytes of an Excel file before 2007, and of a zip file.
@@ -43,14 +53,18 @@ _DAMAGED = (
 
 class Book(NamedTuple):
     """The sheets by their names in small letters, the numbers of their hidden rows, the cells with
-    a look that may mean something, and the day with the number 0, if the file has dates as
-    numbers."""
+    a look that may mean something, and the day with the number 0, if the file has dates as numbers.
+    `columns` has the hidden columns, counted from 0, `merged` the cells that are one, and
+    `concealed` the names of hidden sheets."""
 
     path: Path
     sheets: Dict[str, Rows]
     hidden: Mapping[str, Sequence[int]] = {}
     marks: Mapping[str, Marks] = {}
     day_zero: datetime.date = datetime.date(1899, 12, 30)
+    columns: Mapping[str, Sequence[int]] = {}
+    merged: Mapping[str, Sequence[Merged]] = {}
+    concealed: Collection[str] = ()
 
 
 def read_book(path: Path) -> Book:
@@ -92,11 +106,23 @@ def _read_archive(path: Path, archive: zipfile.ZipFile) -> Book:
     names = set(archive.namelist())
     parts = Parts(path, archive)
     if "content.xml" in names:
-        return Book(path, *sheet_ods.sheets(parts))
+        return _book(path, sheet_ods.grids(parts))
     if "xl/workbook.xml" in names:
-        return Book(path, *sheet_xlsx.sheets(parts))
+        return _book(path, sheet_xlsx.grids(parts))._replace(day_zero=sheet_xlsx.day_zero(parts))
     raise FileFault(
         path, 0, "this file has no sheets: give an .ods or .xlsx file, or a folder of .csv files"
+    )
+
+
+def _book(path: Path, grids: Mapping[str, Grid]) -> Book:
+    return Book(
+        path,
+        {name: grid.rows() for name, grid in grids.items()},
+        {name: grid.hidden for name, grid in grids.items()},
+        {name: grid.marks for name, grid in grids.items()},
+        columns={name: grid.columns for name, grid in grids.items()},
+        merged={name: grid.merged for name, grid in grids.items()},
+        concealed=[name for name, grid in grids.items() if not grid.is_shown],
     )
 
 

@@ -1,56 +1,76 @@
 """Reads the sheets of an ODS file, as LibreOffice writes it."""
 
-from typing import Dict, Iterator, List, Tuple
+import re
+from typing import Dict, Iterator, Sequence, Set
 from xml.etree.ElementTree import Element
 
 from .sheet_parts import (
     SHEETS,
     Grid,
     Look,
-    Marks,
     Parts,
-    Rows,
     formula_text,
+    new_grid,
     number_text,
     ods_space,
 )
 
+# A time of day, and its hours and minutes.
+_CLOCK = re.compile("PT[0-2][0-9]H[0-5][0-9]M")
+_CLOCK_PARTS = slice(2, 4), slice(5, 7)
 _TABLE, _TEXT, _OFFICE, _STYLE, _FO = map(
     ods_space, ("table", "text", "office", "style", "xsl-fo-compatible")
 )
 
 
-def sheets(parts: Parts) -> Tuple[Dict[str, Rows], Dict[str, List[int]], Dict[str, Marks]]:
-    """The sheets by their names in small letters, the numbers of their hidden rows, and the cells
-    with a look that may mean something."""
-    rows: Dict[str, Rows] = {}
-    hidden: Dict[str, List[int]] = {}
-    marks: Dict[str, Marks] = {}
+def grids(parts: Parts) -> Dict[str, Grid]:
+    """The sheets by their names in small letters."""
+    found: Dict[str, Grid] = {}
     content = parts.read("content.xml")
     looks = _looks(content)
+    concealed = _concealed(content)
     for book in content.iter(_OFFICE + "spreadsheet"):
         for table in book.findall(_TABLE + "table"):
-            name = table.get(_TABLE + "name", "").strip().lower()
-            grid = Grid(name, parts)
-            if name in SHEETS:
+            grid = new_grid(table.get(_TABLE + "name", ""), parts, found)
+            grid.is_shown = table.get(_TABLE + "style-name", "") not in concealed
+            if grid.name in SHEETS:
+                _read_columns(table, grid)
                 _read(table, grid, looks)
-            rows[name] = grid.rows()
-            hidden[name] = grid.hidden
-            marks[name] = grid.marks
-    return rows, hidden, marks
+    return found
 
 
 def _rows(element: Element) -> Iterator[Element]:
     """The rows of a sheet, also those of groups and of heads that are repeated on each page."""
+    return _parts(element, "row", ("row-group", "header-rows", "rows"))
+
+
+def _parts(element: Element, name: str, groups: Sequence[str]) -> Iterator[Element]:
+    """The parts of a sheet with this name, also those of these groups."""
     for part in element:
-        if part.tag == _TABLE + "table-row":
+        if part.tag == f"{_TABLE}table-{name}":
             yield part
-        elif part.tag in (
-            _TABLE + "table-row-group",
-            _TABLE + "table-header-rows",
-            _TABLE + "table-rows",
-        ):
-            yield from _rows(part)
+        elif part.tag in (f"{_TABLE}table-{group}" for group in groups):
+            yield from _parts(part, name, groups)
+
+
+def _read_columns(table: Element, grid: Grid) -> None:
+    """Reads which columns are hidden."""
+    number = 0
+    for column in _parts(table, "column", ("column-group", "header-columns", "columns")):
+        end = number + int(column.get(_TABLE + "number-columns-repeated", "1"))
+        if column.get(_TABLE + "visibility", "visible") != "visible":
+            grid.hide(range(number, end))
+        number = end
+
+
+def _concealed(content: Element) -> Set[str]:
+    """The styles of sheets that are hidden."""
+    return {
+        style.get(_STYLE + "name", "")
+        for style in content.iter(_STYLE + "style")
+        for part in style.findall(_STYLE + "table-properties")
+        if part.get(_TABLE + "display") == "false"
+    }
 
 
 def _read(table: Element, grid: Grid, looks: Dict[str, Look]) -> None:
@@ -71,8 +91,10 @@ def _read(table: Element, grid: Grid, looks: Dict[str, Look]) -> None:
                 has_values = has_values or bool(value)
                 grid.put(rows, columns, value)
                 look = looks.get(cell.get(_TABLE + "style-name", ""), Look())
-                struck = bool(value.strip()) and (look.struck or _is_struck(cell, looks))
-                grid.mark(rows, columns, struck, look.colored)
+                look = look._replace(struck=look.struck or _is_struck(cell, looks))
+                grid.mark(rows, columns, look, bool(value.strip()))
+                if cell.find(_OFFICE + "annotation") is not None:
+                    grid.marks.commented.add((rows.start, columns.start))
                 _merge(cell, rows, columns, grid)
         if has_values and row.get(_TABLE + "visibility", "visible") != "visible":
             grid.hidden += [row + 1 for row in rows]
@@ -98,6 +120,8 @@ def _value(cell: Element) -> str:
         value = number_text(cell.get(_OFFICE + "value", ""))
     elif kind == "date":
         value = cell.get(_OFFICE + "date-value", "")[:10]
+    elif kind == "time" and _CLOCK.match(cell.get(_OFFICE + "time-value", "")):
+        value = ":".join(cell.get(_OFFICE + "time-value", "")[part] for part in _CLOCK_PARTS)
     else:
         value = "\n".join("".join(_text(paragraph)) for paragraph in cell.findall(_TEXT + "p"))
     formula = cell.get(_TABLE + "formula")
@@ -123,16 +147,16 @@ def _looks(content: Element) -> Dict[str, Look]:
     """The looks of the styles of an ODS file, by their names."""
     looks: Dict[str, Look] = {}
     for style in content.iter(_STYLE + "style"):
-        lines = {
-            part.get(_STYLE + "text-line-through-style", "none")
-            for part in style.findall(_STYLE + "text-properties")
-        }
+        texts = style.findall(_STYLE + "text-properties")
+        lines = {part.get(_STYLE + "text-line-through-style", "none") for part in texts}
         colors = {
             part.get(_FO + "background-color", "transparent")
             for part in style.findall(_STYLE + "table-cell-properties")
         }
         looks[style.get(_STYLE + "name", "")] = Look(
-            bool(lines - {"none"}), bool(colors - {"transparent", "#ffffff"})
+            bool(lines - {"none"}),
+            bool(colors - {"transparent", "#ffffff"}),
+            any(part.get(_FO + "color", "").lower() == "#ffffff" for part in texts),
         )
     return looks
 

@@ -25,6 +25,8 @@ SHEETS = ("shifts", "contracts", "nurses", "needs", "plan")
 NEARLY = 1e-9
 _SUM = re.compile(r"(?:of:)?=?([0-9]{1,4}\+[0-9]{1,4})")
 Rows = List[List[str]]
+# The rows and columns of cells that are one.
+Merged = Tuple[range, range]
 # The most rows and columns of one cell that is repeated, whose look counts: more are filled outside
 # the table.
 _MOST_REPEATED = 50, 400
@@ -36,10 +38,12 @@ MAIN_SPACES = (
 
 
 class Look(NamedTuple):
-    """Whether the text of a cell is struck through, and whether the cell has a color."""
+    """Whether the text of a cell is struck through, whether the cell has a color, and whether the
+    text is white."""
 
     struck: bool = False
     colored: bool = False
+    white: bool = False
 
 
 def ods_space(name: str) -> str:
@@ -48,18 +52,20 @@ def ods_space(name: str) -> str:
 
 
 class Marks(NamedTuple):
-    """The rows and columns of cells whose text is struck through, and of those that have a
-    color."""
+    """The rows and columns of cells whose text is struck through, of those that have a color, of
+    those whose text is as white as the cell, and of those that have a comment."""
 
     struck: Set[Tuple[int, int]]
     colored: Set[Tuple[int, int]]
+    white: Set[Tuple[int, int]]
+    commented: Set[Tuple[int, int]]
 
 
 class Parts:
     """The XML files in a spreadsheet."""
 
     def __init__(self, path: Path, archive: zipfile.ZipFile) -> None:
-        self._path = path
+        self.path = path
         self._archive = archive
 
     def has(self, name: str) -> bool:
@@ -70,14 +76,14 @@ class Parts:
         """The root of a part."""
         info = self._archive.getinfo(name)
         if info.flag_bits & 1:
-            raise FileFault(self._path, 0, "the spreadsheet has a password: save it without one")
+            raise FileFault(self.path, 0, "the spreadsheet has a password: save it without one")
         if info.compress_type not in (zipfile.ZIP_STORED, zipfile.ZIP_DEFLATED):
             raise zipfile.BadZipFile("no program compresses a spreadsheet like this")
         with self._archive.open(name) as part:
             data = part.read(MAX_BYTES + 1)
         if len(data) > MAX_BYTES:
             raise FileFault(
-                self._path,
+                self.path,
                 0,
                 (
                     f"the spreadsheet has more than {MAX_BYTES} bytes of XML: delete what is no"
@@ -99,10 +105,10 @@ class Parts:
             nonlocal left
             left -= 1 + len(attributes)
             if left < 0:
-                raise FileFault(self._path, 0, many)
+                raise FileFault(self.path, 0, many)
 
         if _LONG.search(data):
-            raise FileFault(self._path, 0, many)
+            raise FileFault(self.path, 0, many)
         checking = expat.ParserCreate()
         checking.StartDoctypeDeclHandler = self._refuse
         checking.StartElementHandler = count
@@ -110,7 +116,7 @@ class Parts:
 
     def _refuse(self, *_words: object) -> None:
         raise FileFault(
-            self._path,
+            self.path,
             0,
             (
                 "the spreadsheet has a document type, which no program writes: save it again with"
@@ -121,7 +127,7 @@ class Parts:
     def too_large(self, sheet: str) -> FileFault:
         """The fault of a sheet with too many cells."""
         return FileFault(
-            self._path,
+            self.path,
             0,
             (
                 f"sheet {sheet} has more than {MAX_ROWS} rows or {MAX_COLUMNS} columns: delete"
@@ -132,34 +138,43 @@ class Parts:
 
 class Grid:
     """The cells of a sheet while it is read. Cells that are merged have the value of the first of
-    them; `hidden` has the numbers of hidden rows, counted from 1."""
+    them; `hidden` has the numbers of hidden rows, counted from 1, and `columns` those of hidden
+    columns, from 0. `is_shown` is whether the sheet itself is."""
 
     def __init__(self, sheet: str, parts: Parts) -> None:
-        self._sheet = sheet
+        self.name = sheet
         self._parts = parts
         self._cells: Dict[int, Dict[int, str]] = {}
-        self._merged: List[Tuple[range, range]] = []
+        self.merged: List[Merged] = []
         self.hidden: List[int] = []
-        self.marks = Marks(set(), set())
+        self.columns: List[int] = []
+        self.is_shown = True
+        self.marks = Marks(set(), set(), set(), set())
 
-    def mark(self, rows: range, columns: range, struck: bool, colored: bool) -> None:
-        """Keeps the look of cells."""
+    def mark(self, rows: range, columns: range, look: Look, has_text: bool) -> None:
+        """Keeps the look of cells, and of their text, if they have one."""
         if len(rows) <= _MOST_REPEATED[0] and len(columns) <= _MOST_REPEATED[1]:
-            for marked, looks_so in zip(self.marks, (struck, colored)):
+            white = look.white and not look.colored
+            looks = (look.struck and has_text, look.colored, white and has_text)
+            for marked, looks_so in zip(self.marks, looks):
                 marked.update((row, column) for row in rows for column in columns if looks_so)
+
+    def hide(self, columns: range) -> None:
+        """Keeps that these columns are hidden, as far as a sheet can have them."""
+        self.columns += columns[:MAX_COLUMNS]
 
     def put(self, rows: range, columns: range, value: str) -> None:
         """Writes the value into these cells, if it is one."""
         if not value:
             return
         if rows.stop > MAX_ROWS or columns.stop > MAX_COLUMNS:
-            raise self._parts.too_large(self._sheet)
+            raise self._parts.too_large(self.name)
         for row in rows:
             self._cells.setdefault(row, {}).update(dict.fromkeys(columns, value))
 
     def merge(self, rows: range, columns: range) -> None:
         """Makes one cell of these."""
-        self._merged.append((rows, columns))
+        self.merged.append((rows, columns))
 
     def rows(self) -> Rows:
         """The rows, with merged cells filled as far as the sheet has others."""
@@ -169,13 +184,26 @@ class Grid:
             [self._cells.get(row, {}).get(column, "") for column in range(width)]
             for row in range(height)
         ]
-        for rows, columns in self._merged:
+        for rows, columns in self.merged:
             if rows.start < height and columns.start < width:
                 for row in rows[: height - rows.start]:
                     texts[row][columns.start : columns.stop] = [
                         texts[rows.start][columns.start]
                     ] * len(columns[: width - columns.start])
         return trimmed(texts)
+
+
+def new_grid(name: str, parts: Parts, grids: Dict[str, Grid]) -> Grid:
+    """The grid of one more sheet. Raises FileFault if a sheet of a ward is there twice."""
+    key = name.strip().lower()
+    if key in SHEETS and key in grids:
+        raise FileFault(
+            parts.path,
+            0,
+            f"two sheets are named {key}, perhaps with a blank: rename or delete one of the two",
+        )
+    grids[key] = Grid(key, parts)
+    return grids[key]
 
 
 def number_text(value: str) -> str:

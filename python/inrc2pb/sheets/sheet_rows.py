@@ -7,9 +7,9 @@ from typing import Collection, Dict, Iterator, List, NoReturn, Optional, Sequenc
 from ..week.faults import FileFault, Gathering
 from ..week.slots import closest
 from ..week.words import quoted
-from .sheet_cells import KEPT, SUM, SheetCell, tidy
+from .sheet_cells import KEPT, SUM, SheetCell, day_meant, tidy
 from .sheet_files import Book
-from .sheet_parts import Rows
+from .sheet_parts import SHEETS, Rows
 
 
 # The texts that spreadsheets show for a formula with a fault.
@@ -97,13 +97,27 @@ class Table:
 
     def _sheet(self) -> Rows:
         if self.name not in self.book.sheets:
-            cure = "add it; the verb new writes an example of all sheets into a new folder"
+            meant = self._renamed()
+            cure = (
+                f"rename '{meant}' to {self.name}, if that is the one"
+                if meant
+                else "add it; the verb new writes an example of all sheets into a new folder"
+            )
             raise FileFault(
                 self.book.path,
                 0,
                 f"there is no sheet '{self.name}' beside {quoted(self.book.sheets)}: {cure}",
             )
         return self.book.sheets[self.name]
+
+    def _renamed(self) -> Optional[str]:
+        """The sheet that most likely was this one: one with its name in it, or the only other one
+        if no other sheet of a ward is missing."""
+        others = [name for name in self.book.sheets if name not in SHEETS]
+        named = [name for name in others if self.name in name] or others
+        missing = [name for name in SHEETS if name not in self.book.sheets]
+        alone = len(named) == 1 and (self.name in named[0] or missing == [self.name])
+        return named[0] if alone else closest(self.name, others)
 
     def _find_head(self, rows: Rows) -> int:
         """The row with the heads: titles may be above it."""
@@ -133,7 +147,9 @@ class Table:
         elif open_end:
             self.others.append(cell)
         else:
-            meant = self._meant(head, {tidy(text).casefold() for text in heads})
+            meant = day_meant(cell.text) or self._meant(
+                head, {tidy(text).casefold() for text in heads}
+            )
             cell.fault(
                 f"'{cell.text}' is no column of this sheet: "
                 + (f"did you mean '{meant}'?" if meant else "delete it, or begin its head with #")

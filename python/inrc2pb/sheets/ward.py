@@ -35,6 +35,7 @@ from ..week.records import (
     together,
 )
 from ..week.slots import MAX_NUMBER
+from .odd_cells import cell_warnings
 from .odd_tables import book_warnings, skill_warnings, ward_warnings
 from .plan_days import Days, plan_warnings, read_days, week_of_row_warnings
 from .plan_sheets import (
@@ -49,7 +50,8 @@ from .plan_sheets import (
 from .sheet_cells import tidy
 from .sheet_facts import claims_of, look_warnings, with_part_contracts
 from .sheet_files import Book, read_book
-from .ward_sheets import WardTables, read_ward, shift_times, table_of
+from .unseen import unseen_warnings
+from .ward_sheets import NIGHT, WardTables, read_ward, shift_times, table_of
 from .week_rows import WeekRow, week_rows
 from .written_days import DayWord, lost_shifts, with_written
 
@@ -137,6 +139,15 @@ class Ward:
         """The data of a week, with its absences and limits."""
         return with_given(self.scenario, self.weeks[number], self.claims, number)
 
+    @cached_property
+    def nights(self) -> FrozenSet[str]:
+        """The shift types of the night, which are known by their times, or else by their names."""
+        return frozenset(
+            name
+            for name in self.scenario.shift_types
+            if (self.times[name].is_night if name in self.times else NIGHT.search(name))
+        )
+
     @property
     def credit(self) -> Mapping[str, int]:
         """The shifts as which the days away of each nurse count in the whole period."""
@@ -220,7 +231,7 @@ def ward_of(
         book=book,
     )
     odd, reach = _odd_weeks(ward)
-    warnings = [*_odd_sheets(written, days, tables, sheets), *odd]
+    warnings = [*_odd_sheets(written, days, tables, sheets, ward.times), *odd]
     return replace(ward, warnings=warnings, reach=reach)
 
 
@@ -257,7 +268,11 @@ def _claims(
 
 
 def _odd_sheets(
-    book: Book, days: Days, tables: WardTables, sheets: List[WeekSheet]
+    book: Book,
+    days: Days,
+    tables: WardTables,
+    sheets: List[WeekSheet],
+    times: Mapping[str, Times],
 ) -> Iterator[str]:
     """What is odd in sheets."""
     for line in scenario_warnings(tables.scenario):
@@ -266,6 +281,8 @@ def _odd_sheets(
     for line in (*history_warnings(tables.history), *skill_warnings(tables, asked)):
         yield f"sheet nurses: {line}"
     yield from (*book_warnings(book), *look_warnings(book, days), *ward_warnings(tables))
+    yield from unseen_warnings(book, days)
+    yield from cell_warnings(book, tables, days, sheets, times)
     for line in (*plan_warnings(days, tables.scenario), *held_warnings(tables, sheets, days)):
         yield f"sheet plan: {line}"
     for line in week_of_row_warnings(table_of(book, "needs"), days):

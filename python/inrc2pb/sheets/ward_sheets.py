@@ -9,7 +9,7 @@ from ..week.faults import Gathering, Misuse
 from ..week.records import DAYS, Contract, History, Limits, Nurse, NurseHistory, Scenario, ShiftType
 from ..week.slots import MAX_CONTRACTS, MAX_NUMBER, MAX_NURSES, MAX_SHIFTS, MAX_SKILLS
 from ..week.words import readable
-from .sheet_cells import KEPT, SheetCell
+from .sheet_cells import KEPT, SheetCell, day_meant
 from .sheet_files import Book
 from .sheet_rows import SheetRow
 from .sheet_rows import Table
@@ -20,7 +20,7 @@ NIGHT = re.compile("night|nacht|nuit|noche|notte|noite", re.IGNORECASE)
 _YES = ("1", "yes", "x", "true")
 _NO = ("", "0", "no", "-", "false")
 HEADS = {
-    "shifts": (("shift",), ("min in a row", "max in a row", "not followed by", "times")),
+    "shifts": (("shift",), ("min in a row", "max in a row", "not followed by", "times", "rest")),
     "contracts": (
         ("contract",),
         tuple(
@@ -189,6 +189,8 @@ def _days_off(cell: SheetCell) -> List[int]:
     days = []
     for part in cell.parts():
         if part.text.casefold() not in names:
+            if day_meant(part.text):
+                part.fault(f"'{part.text}' is no day of the week: write {day_meant(part.text)}")
             part.fault(
                 f"'{part.text}' is no day of the week: write days with commas between, such as"
                 " Mon, Tue"

@@ -9,7 +9,7 @@ from typing import Collection, Iterator, NamedTuple, Sequence
 from .faults import Misuse
 from .records import DAYS, WEEK_DAYS, in_a_row, week_name
 from .slots import did_you_mean
-from .words import joined, quoted
+from .words import joined, plural, quoted
 
 MONTHS = ("Jan", "Feb", "Mar", "Apr", "May", "Jun", "Jul", "Aug", "Sep", "Oct", "Nov", "Dec")
 DAY = datetime.timedelta(days=1)
@@ -21,6 +21,7 @@ _CALENDAR_WEEK = re.compile(r"(?:cw|kw|calendar week)\.? ?([0-9]{1,2})", re.IGNO
 _IN_WORDS = re.compile(
     f"(?:(mon|tue|wed|thu|fri|sat|sun)[a-z]* )?([0-9]{{1,2}}) ({'|'.join(MONTHS)})", re.IGNORECASE
 )
+_DAY_AND_MONTH = re.compile(rf"([0-9]{{1,2}})\.? ({'|'.join(MONTHS)})[a-z]*\.?", re.IGNORECASE)
 _DATE = re.compile(r"([0-9]{4})-([0-9]{1,2})-([0-9]{1,2})|([0-9]{1,2})\.([0-9]{1,2})\.?([0-9]{4})?")
 
 
@@ -31,14 +32,29 @@ class Times(NamedTuple):
     length: datetime.timedelta
 
     @property
+    def begin(self) -> datetime.timedelta:
+        """The time from midnight to its begin."""
+        return datetime.timedelta(hours=self.start.hour, minutes=self.start.minute)
+
+    @property
+    def end(self) -> datetime.timedelta:
+        """The time from the midnight before it begins to its end."""
+        return self.begin + self.length
+
+    @property
     def is_night(self) -> bool:
         """Whether the shift takes a part of the night."""
-        begin = datetime.timedelta(hours=self.start.hour, minutes=self.start.minute)
-        return begin + self.length > DAY + _NIGHT_ENDS
+        return self.end > DAY + _NIGHT_ENDS
 
     def __str__(self) -> str:
         end = (datetime.datetime.combine(datetime.date.min, self.start) + self.length).time()
         return f"{self.start:%H:%M} to {end:%H:%M}"
+
+
+def hours_text(time: datetime.timedelta) -> str:
+    """A time in hours, as `8 hours`, `1 hour` or `7:30 hours`."""
+    hours, minutes = divmod(time // datetime.timedelta(minutes=1), 60)
+    return f"{hours}:{minutes:02} hours" if minutes else plural(hours, "hour")
 
 
 def date_text(date: datetime.date) -> str:
@@ -71,6 +87,18 @@ def written_dates(text: str) -> Iterator[WrittenDate]:
 def written_date(text: str) -> WrittenDate | None:
     """The date that the whole text is, if it is one."""
     return next((date for date in written_dates(text) if date.text == text), None)
+
+
+def date_without_year(text: str, monday: datetime.date) -> datetime.date | None:
+    """The date from this Monday on that a text such as `25.12.` or `25 Dec` names, if it is one.
+    Raises ValueError if there is no such day."""
+    in_words = _DAY_AND_MONTH.fullmatch(text)
+    month = MONTHS.index(in_words[2].title()) + 1 if in_words else 0
+    written = written_date(f"{in_words[1]}.{month}." if in_words else text)
+    if not written or written.year is not None:
+        return None
+    date = written.date(monday.year)
+    return date if date >= monday else written.date(monday.year + 1)
 
 
 def read_monday(text: str, weeks: int) -> datetime.date:

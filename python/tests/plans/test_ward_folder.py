@@ -33,6 +33,14 @@ class Folders(FolderTest):
             missing,
             "plan",
         )
+        for name in ("ward.xlsm", "old.xls"):
+            (empty / name).touch()
+            self.assert_refused(
+                f"{name} cannot be read: open it in its program, and save it as .xlsx or .ods",
+                empty,
+                "plan",
+            )
+            (empty / name).unlink()
         for name in ("one.ods", "two.xlsx"):
             (self.ward / name).touch()
         self.assert_refused(

@@ -180,7 +180,13 @@ class Weeks(unittest.TestCase):
                     " a calendar week such as CW 50, or a date"
                 ),
             ),
-            ("soon", "'soon' is no whole number: write a number such as 2"),
+            (
+                "soon",
+                (
+                    "'soon' is no week: write its number in the plan, from 1, a calendar week such"
+                    " as CW 50, or a date such as 2026-11-30"
+                ),
+            ),
         ):
             with self.subTest(text), self.assertRaises(FileFault) as caught:
                 texts(self.dated(text))

@@ -430,7 +430,7 @@ class Formats(HelperTest):
             "sheet needs, row 2: Wed empty, and counted as 0: write 0 if nobody is needed", warnings
         )
         self.assertEqual(
-            [line for line in warnings if "hidden" in line or "empty" in line], warnings[:2]
+            [line for line in warnings if "hidden" in line or "empty" in line], warnings[:3]
         )
 
     def test_folders_that_have_no_sheets(self):

@@ -334,7 +334,7 @@ class Contents(unittest.TestCase):
                 1,
                 3,
                 "Mo",
-                "row 1, column D: 'Mo' is no column of this sheet: did you mean 'mon'?",
+                "row 1, column D: 'Mo' is no column of this sheet: did you mean 'Mon'?",
             ),
             (
                 "needs",
@@ -363,7 +363,7 @@ class Contents(unittest.TestCase):
                     ("0/2", "0+2 for 0 at least and better 2"),
                     *(
                         (text, "2+1 for 2 at least and better 3")
-                        for text in ("4-4", "3-2", "2026-03-02", "02.03.2026", "3-Feb", "two")
+                        for text in ("4-4", "3-2", "02.03.2026", "3-Feb", "two")
                     ),
                 )
             ),

@@ -15,7 +15,7 @@ from ...shown.ward_sentences import (
 from ...shown.week_sentences import DescribedWeek, weeks_sentences
 from ...shown.why import plain_breach_lines
 from ...week.records import WEEK_DAYS, in_week
-from ...week.words import readable
+from ...week.words import joined, readable
 from ..odd_sheet import warning_lines
 from ..sentences import beside_lines, exceeded_lines, working_lines
 from ..reading import Strangers
@@ -100,12 +100,25 @@ def _ward_lines(plan: WardPlan) -> list[str]:
         *_supplies(plan),
         "",
         *scenario_sentences(plan.scenario),
+        _nights_sentence(plan),
         *limits,
         "",
         *past,
         "",
         *sentences,
     ]
+
+
+def _nights_sentence(plan: WardPlan) -> str:
+    """Which shift types are nights, and how that is known."""
+    names = [readable(name) for name in plan.scenario.shift_types if name in plan.ward.nights]
+    known = "they end after 3:00" if plan.ward.times else "their names say so"
+    if names:
+        return f"Nights are {joined(names)}, since {known}."
+    why = "no shift type ends after 3:00" if plan.ward.times else "no name of a shift type says so"
+    return (
+        f"No shift is a night, since {why}: write times of all shifts, or such a name, if one is."
+    )
 
 
 def _calendar_name(plan: WardPlan, number: int) -> str:
