@@ -91,6 +91,9 @@ def _options() -> Parser:
     options.add_flag(
         "--do", "with swap or set: write it; with others: also a plan that exceeds a maximum with !"
     )
+    options.add_flag(
+        "--open", "with set, plan and days away: leave those shifts open that nobody else can take"
+    )
     options.add_argument(
         "--port",
         metavar="N",
@@ -162,6 +165,8 @@ def _check(given: argparse.Namespace) -> None:
         raise Misuse(
             f"--do is for verbs that ask before they write: leave it out with {given.verb}"
         )
+    if given.open and given.verb not in ("set", "plan", *AWAY):
+        raise Misuse("--open is for set, plan and days away: leave it out")
     if given.free and given.verb != "plan":
         raise Misuse("--free is for plan: leave it out")
     _check_address(given)
@@ -282,7 +287,7 @@ def main() -> int | None:
         print("\n".join(_files(given)))
         return 0
     folder = WardFolder(given.folder)
-    event = Event(given.verb, tuple(given.words), given.time, given.free, given.do)
+    event = Event(given.verb, tuple(given.words), given.time, given.free, given.do, open=given.open)
     if given.verb == "check":
         return _told(_verbs(folder).done(event))
     folder.spreadsheet()

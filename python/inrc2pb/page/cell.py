@@ -155,6 +155,10 @@ class Actions:
             name = cell_text(cell, f"{OFF}, {PROMISED}")
             faults = self._swaps.day_faults(self._place, cell)
             why = ", ".join(fault_text(self._plan, fault) for fault in faults)
+            if faults and all(fault.is_minimum for fault in faults):
+                alone = f"{self._swaps.day_cost(self._place, cell):+}  {name}, and this stays open:"
+                text = f"{alone} {self._leaves()}"
+                buttons.append(self._button(text, verb="set", shift=shift, open="yes"))
             if not all(self._swaps.may_vanish(fault, self._place) for fault in faults):
                 refused.append(element("li", f"{name}: {why}"))
                 continue
@@ -172,6 +176,10 @@ class Actions:
             else []
         )
         return _group("She has another shift, or a promised day off", [*buttons, *never])
+
+    def _leaves(self) -> str:
+        """The shift that she has now."""
+        return cell_text(self._swaps.works(*self._place))
 
     def _choices(self) -> Iterator[Tuple[str, Optional[Cell]]]:
         """The words of the verb set, and the shifts that they are: off, and each shift type with

@@ -77,6 +77,7 @@ def event_of(fields: Fields, seconds: Optional[float] = None) -> Event:
         free="free" in fields,
         do=is_written,
         on_page=True,
+        open="open" in fields,
     )
 
 

@@ -110,7 +110,7 @@ def roster_of(top: Path, plan: WardPlan, address: str) -> Roster:
     points = content.view.penalty
     return Roster(
         "" if points is None else f"{points} points. ",
-        joined(*notes, hint, *table.tables(), legend),
+        joined(*content.open_lines(), *notes, hint, *table.tables(), legend),
     )
 
 
@@ -241,6 +241,10 @@ def _said(said: Said, shown: Shown, address: str) -> List[Markup]:
     if isinstance(outcome, (Away, Planned, WeekOver)) and not outcome.is_written:
         asked = {name: value for name, value in said.fields.items() if value}
         write = [button_markup({**asked, "write it": "yes"}, "Write it all the same", address)]
+    if outcome is not None and outcome.may_be_open and not shown.asks:
+        asked = {name: value for name, value in said.fields.items() if value}
+        fields = {**asked, "open": "yes", STAMP: shown.stamp}
+        write = [*write, button_markup(fields, "Leave it open", address)]
     is_written = outcome is not None and outcome.is_written and not said.is_undo
     undo = (
         [button_markup({"verb": "undo", STAMP: shown.stamp}, "Take it back", address)]

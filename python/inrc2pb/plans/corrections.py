@@ -13,6 +13,7 @@ from ..week.words import readable
 from .absence import Away, lost_by
 from .changes import shift_changes
 from .facts import broken
+from .left_open import worked_open
 from .sentences import broken_text, change_lines, days_away_lines
 from .verb import Event, cell_of
 from .ward import ALWAYS_OFF, DAYS_OFF, WardPlan, plan_of
@@ -31,7 +32,8 @@ class Corrections(NamedTuple):
     def with_open(self, open_week: int) -> WardPlan:
         """The plan with them, whose first weeks are over."""
         state = replace(self.new.state, open_week=open_week)
-        return plan_of(self.new.ward, state.keeping(lambda place: place.day >= state.first))
+        new = plan_of(self.new.ward, state.keeping(lambda place: place.day >= state.first))
+        return worked_open(new)
 
     def lines(self) -> list[str]:
         """What was worked otherwise than planned, and the rules that this breaks."""

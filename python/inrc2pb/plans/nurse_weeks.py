@@ -44,6 +44,12 @@ class Fault(NamedTuple):
     number: int = 0
     promise: SetDay | None = None
 
+    @property
+    def is_minimum(self) -> bool:
+        """Whether only the minimum number of the place that she leaves is in the way, which may be
+        left open."""
+        return self.kind is Obstacle.MINIMUM
+
 
 class NurseWeeks:
     """The weeks of a plan that are not over as each nurse has them, as if the ward had her alone

@@ -17,6 +17,7 @@ from ..week.records import WEEK_DAYS, NurseDay
 from ..week.words import readable
 from ..week.writing import write_own_text
 from .facts import promised_days, sums
+from .left_open import all_open_lines
 from .sentences import beside_lines, exceeded_lines, working_lines
 from .ward import WardPlan
 
@@ -224,6 +225,7 @@ def _worked_content(plan: WardPlan) -> Content:
         plan.days.monday,
         plan.ward.times,
         as_of=datetime.datetime.now(),
+        opened=all_open_lines(plan, range(plan.state.open_week)),
     )
 
 
@@ -265,6 +267,7 @@ def roster_content(top: Path, plan: WardPlan, old: WardPlan | None = None) -> Co
     )
     content = replace(
         content,
+        opened=all_open_lines(plan),
         swapped=_of_table(plan, plan.state.agreed),
         promised=_of_table(plan, promised_days(plan)),
     )

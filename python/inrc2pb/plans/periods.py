@@ -13,6 +13,7 @@ from typing import Dict, Iterable, Iterator, List, NamedTuple, Optional, Sequenc
 
 from ..judging.leave import Counted
 from ..judging.next_history import next_history
+from ..sheets.open_shifts import lowered
 from ..sheets.ward import Ward
 from ..sheets.written_days import BACK, DayWord
 from ..week.dates import PlanDays
@@ -143,7 +144,10 @@ def past_plan(period: Period, now: Ward) -> WardPlan:
         scenario=scenario,
         past=state.start,
         claims=read_facts(folder / "facts.txt", scenario, period.days.weeks),
-        weeks=tuple(read_week(folder / f"week-{week}.txt", scenario) for week in weeks),
+        weeks=tuple(
+            lowered(read_week(folder / f"week-{week}.txt", scenario), week, state.opened, by=-1)
+            for week in weeks
+        ),
         held=in_plan(_cells(folder / f"fix-{week}.txt") for week in weeks),
         reasons={
             NurseDay(away.nurse, WEEK_DAYS * (away.week - 1) + away.day): word
@@ -156,6 +160,7 @@ def past_plan(period: Period, now: Ward) -> WardPlan:
         week_rows=(),
         was={},
         book=now.book,
+        opened=state.opened,
     )
     return plan_of(ward, state)
 

@@ -7,6 +7,7 @@ import json
 from pathlib import Path
 from typing import Any, Callable, Dict, List, Optional, Sequence, Tuple
 
+from ..sheets.open_shifts import OpenShift
 from ..sheets.written_days import DayWord
 from ..week.dates import PlanDays
 from ..week.faults import FileFault, Misuse
@@ -20,7 +21,7 @@ from ..week.files import (
 )
 from ..week.own_files import check_own
 from ..week.records import Cell, History, NurseDay, Scenario, Solution, in_plan
-from ..week.slots import MAX_WEEKS, text_of
+from ..week.slots import MAX_NUMBER, MAX_WEEKS, text_of
 from .state import Record, SetDay, State
 
 
@@ -33,6 +34,7 @@ _CURE = "correct it, or type undo to go back to the plan before it"
 _SET = "set days"
 _TYPED = "typed"
 _PERIOD = "period"
+_OPEN = "open shifts"
 # The most periods of a folder.
 _MOST_PERIODS = 9999
 
@@ -59,6 +61,7 @@ def record_text(record: Record) -> str:
         _SET: [list(promise) for promise in record.set_days],
         _TYPED: record.typed,
         **({} if record.period is None else {_PERIOD: record.period}),
+        **({_OPEN: [list(one) for one in record.opened]} if record.opened else {}),
     }
     lines = [
         f"  {json.dumps(name)}: {json.dumps(value, ensure_ascii=False)}"
@@ -124,10 +127,11 @@ def _record_of(values: Any) -> Record:
         _SET,
         _TYPED,
         _PERIOD,
+        _OPEN,
     )
-    if not isinstance(values, dict) or {_SET, _TYPED, _PERIOD, *values} != set(names):
+    if not isinstance(values, dict) or {_SET, _TYPED, _PERIOD, _OPEN, *values} != set(names):
         raise _Changed(f"it has not the names {', '.join(names)}")
-    values = {_SET: [], _TYPED: "", **values}
+    values = {_SET: [], _TYPED: "", _OPEN: [], **values}
     monday = values["monday"]
     weeks = _taken(values, "weeks", _is_number_to(MAX_WEEKS))
     days = PlanDays(None if monday is None else _time(values, "monday", "%Y-%m-%d").date(), weeks)
@@ -149,6 +153,10 @@ def _record_of(values: Any) -> Record:
         set_days=tuple(SetDay(*(row if len(row) > 3 else [*row, None])) for row in set_days),
         typed=_taken(values, _TYPED, lambda value: isinstance(value, str)),
         period=_taken(values, _PERIOD, _is_number_to(_MOST_PERIODS)) if _PERIOD in values else None,
+        opened=tuple(
+            OpenShift(*row)
+            for row in _rows(values, _OPEN, [is_day, _is_text, _is_text, _is_number_to(MAX_NUMBER)])
+        ),
     )
 
 
@@ -217,6 +225,7 @@ def read_state(folder: Path) -> State:
         agreed=record.agreed,
         set_days=_with_shifts(record.set_days, cells),
         period=record.period or 0,
+        opened=record.opened,
     )
 
 

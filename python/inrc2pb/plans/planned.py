@@ -4,12 +4,14 @@ from dataclasses import dataclass
 from typing import Mapping, Protocol
 
 from ..search.why_none import CAN, Shortage, kept_no_absence_lines, lowered_text, shortage_head
+from ..sheets.open_shifts import number_of
 from ..week.dates import PlanDays
 from ..week.records import WEEK_DAYS
 from ..week.words import plural, readable
 from .absence import not_written_text
 from .changes import shift_changes
-from .facts import Agreement, broken_agreements, unkept
+from .facts import Agreement, broken_agreements, unkept, while_away
+from .left_open import all_open_lines, open_from
 from .offers import price_lines
 from .searching import Asked, KnownBound
 from .sentences import (
@@ -68,7 +70,9 @@ class Planned(Outcome):
         new = self.plan
         missing = unkept(self.plan)
         said = self.cause.heads(self.is_look) if self.cause else []
-        said += unkept_lines(new, missing)
+        said += [*all_open_lines(new), *unkept_lines(new, missing)]
+        if self.may_be_open:
+            said.append("with --open these shifts stay open, and who is away does not work")
         if len(missing) > len(unkept(for_leavers(new, self.asked.first))):
             said.append(
                 f"shifts before {new.days.text(self.asked.first)} stay: plan from an earlier day"
@@ -85,7 +89,7 @@ class Planned(Outcome):
         said += price_lines(self.before, new) if self.before and self.asked.is_firm else []
         said += evenness_lines(new)
         if not missing and not self.asked.few_changes:
-            said.append(bound_text(self.bound))
+            said.append(bound_text(self.bound, number_of(open_from(new, new.first))))
             if new.state.is_as_planned:
                 said.append("This holds if the period before it ends as planned.")
         if self.is_stopped:
@@ -100,6 +104,11 @@ class Planned(Outcome):
                 " and plan again, or undo"
             )
         return [*said, *self.pages.lines()]
+
+    @property
+    def may_be_open(self) -> bool:
+        """Whether somebody works though she is away."""
+        return while_away(self.plan) > 0
 
     def _changed(self) -> list[str]:
         """The shifts that change, and who has to be called; only their number in a plan that nobody
@@ -147,7 +156,13 @@ class NoPlan(Outcome):
             away = [owner.nurse for owner in short.owners if owner.is_away]
             if away:
                 said.append(readable(f"    away: {', '.join(away)}"))
-        return [*begin, *said, *(readable(line) for line in kept_no_absence_lines(self.shortage))]
+        kept = (readable(line) for line in kept_no_absence_lines(self.shortage))
+        return [*begin, *said, *kept, "with --open these shifts stay open"]
+
+    @property
+    def may_be_open(self) -> bool:
+        """Always."""
+        return True
 
 
 def _agreement_text(new: WardPlan, broken: Agreement) -> str:
@@ -171,23 +186,25 @@ def cost_lines(penalties: Mapping[int, int], days: PlanDays) -> list[str]:
     )
 
 
-def bound_text(known: KnownBound | None) -> str:
+def bound_text(known: KnownBound | None, missing: int = 0) -> str:
     """What a plan costs, how many points cannot be avoided, and whether that is proved; after it
-    the other bound, if it is higher."""
+    the other bound, if it is higher. In the plan so many nurses are missing."""
     if not known:
         return UNKNOWN_BOUND
+    still_open = f", with {plural(missing, 'open shift')}" if missing else ""
     plans = f"plan that keeps all {known.bound.only}" if known.bound.only else "plan"
     said = _least_text(
         known.penalty,
         known.bound.points,
         plans,
-        f"proved by {known.bound.by}" if known.is_proved else "not proved",
+        (f"proved by {known.bound.by}" if known.is_proved else "not proved") + still_open,
     )
     least = known.bound.points
     if known.beside is not None and known.beside > least:
         least = known.beside
         plans = "plan with training as work in a row, and no night shift before it or leave,"
-        said += f" {_least_text(known.penalty, least, plans, 'not proved', is_first=False)}"
+        proof = f"not proved{still_open}"
+        said += f" {_least_text(known.penalty, least, plans, proof, is_first=False)}"
     return f"{said} More seconds may help." if known.penalty > least else said
 
 

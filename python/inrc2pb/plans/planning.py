@@ -5,14 +5,18 @@ from typing import Callable, Sequence
 
 from ..programs.clock import Clock
 from ..programs.interrupts import interrupts
+from ..judging.leave import ILL
 from ..programs.program import NO_ROSTER
+from ..sheets.open_shifts import OpenShift
 from ..week.faults import ProgramFault, Stopped
+from ..week.records import WEEK_DAYS
 from .absence import Away
 from .exchanges import STEPS_A_SECOND, more_even
 from .facts import newly_exceeded, unkept, while_away
+from .left_open import filled, left_open, open_from, with_fewer_open, with_open, without_away
 from .needless_changes import without_needless_changes
 from .planned import Cause, NoPlan, Planned
-from .searching import Asked, Found, Keep, search_plan, why_no_plan
+from .searching import Asked, Found, Keep, search_plan, shortages
 from .store import PlanStore, penalties
 from .verb import Event, Outcome, Status, saved
 from .ward import WardPlan, for_leavers
@@ -33,6 +37,8 @@ WITHOUT_AGREED = (
     "no plan was found that keeps all agreed swaps: a search for one that may break them"
 )
 FIRM = "no plan was found that keeps all of this"
+STILL_OPEN = "no plan was found that fills the open shifts: a search for one that leaves them open"
+LEFT_OPEN = "no plan was found that fills all shifts: a search for one that leaves some open"
 FOR_REASON = "no plan was found: a search for the reason, at most 30 s for each week"
 
 
@@ -61,7 +67,8 @@ def searched(
     # A second Ctrl-C does not end it before the plan is written.
     with interrupts() as signals, signals.ending():
         try:
-            found = _found(store, old, asked._replace(seconds=asked.seconds - _evening(asked)))
+            asked = asked._replace(opens=event.open or event.verb == ILL)
+            found = _filling(store, old, asked._replace(seconds=asked.seconds - _evening(asked)))
         except Stopped:
             raise
         except ProgramFault as fault:
@@ -77,8 +84,9 @@ def searched(
             found = found._replace(plan=_evened(found, asked, ends))
         works = found.plan.works
         before = old.works
-        new = found.plan.with_state(
-            found.plan.state.agreeing(lambda place: works.get(place) == before.get(place))
+        new = with_fewer_open(found.plan)
+        new = new.with_state(
+            new.state.agreeing(lambda place: works.get(place) == before.get(place))
         )
         older = cause.old if cause else old
         seen = older if old.is_planned else None
@@ -132,6 +140,64 @@ def _evening(asked: Asked) -> float:
     return 0.0 if asked.few_changes else min(EVENING_SHARE * asked.seconds, MOST_EVENING)
 
 
+def _filling(store: PlanStore, old: WardPlan, asked: Asked) -> Found:
+    """The best plan, which fills the open shifts, if that is asked for and one does."""
+    if not (asked.fills and open_from(old, asked.first)):
+        return _opening(store, old, asked)
+    clock = Clock(asked.seconds)
+    first = asked._replace(seconds=FIRM_SHARE * asked.seconds)
+    try:
+        found = _found(store, filled(old, asked.first), first)
+        if found.stopped or while_away(found.plan) <= while_away(old):
+            return found
+    except Stopped:
+        raise
+    except ProgramFault as fault:
+        if fault.status != NO_ROSTER:
+            raise
+    store.means.say(STILL_OPEN)
+    return _opening(store, old, asked._replace(seconds=clock.left()))
+
+
+def _opening(store: PlanStore, old: WardPlan, asked: Asked) -> Found:
+    """The best plan; if that is asked for, one that leaves those shifts open that only nurses who
+    are away could have, or nobody. If few shifts may change, these alone do then."""
+    clock = Clock(asked.seconds)
+    try:
+        found = _found(store, old, asked)
+        if not asked.opens or not while_away(found.plan):
+            return found
+        opened = left_open(without_away(found.plan, asked.first), asked.first)
+    except Stopped:
+        raise
+    except ProgramFault as fault:
+        if fault.status != NO_ROSTER or not asked.opens:
+            raise
+        found = Found(old)
+        opened = (
+            left_open(without_away(old, asked.first), asked.first)
+            if old.is_planned and asked.few_changes
+            else _with_shortages(store, old)
+        )
+    if asked.few_changes and old.is_planned:
+        return Found(opened, stopped=found.stopped)
+    store.means.say(LEFT_OPEN)
+    return _found(store, with_open(old, opened.state.opened), asked._replace(seconds=clock.left()))
+
+
+def _with_shortages(store: PlanStore, old: WardPlan) -> WardPlan:
+    """The plan with those shifts open, week by week, that no roster of the week has."""
+    store.means.say(FOR_REASON)
+    opened = {one.place: one for one in old.state.opened}
+    for number, shortage in shortages(old):
+        for short in shortage.places:
+            place = short.place._replace(day=WEEK_DAYS * number + short.place.day)
+            older = opened.get(place, OpenShift(*place, 0))
+            more = older.missing + short.minimum - short.there
+            opened[place] = older._replace(missing=more)
+    return with_open(old, opened.values())
+
+
 def _found(store: PlanStore, old: WardPlan, asked: Asked) -> Found:
     """The best plan that keeps the agreed days, or, if it would keep less of the absences and
     limits, one that keeps most of them."""
@@ -163,7 +229,7 @@ def _no_plan(
     if fault.status != NO_ROSTER or asked.is_firm:
         raise fault
     store.means.say(FOR_REASON)
-    why = why_no_plan(old)
+    why = next(shortages(old), None)
     if why is None:
         raise fault
     return NoPlan(old, *why, cause, status=Status.NO_PLAN)

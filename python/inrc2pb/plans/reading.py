@@ -88,7 +88,7 @@ class PlanReader:
         state = replace(state, is_as_planned=before is not None and not before.is_over)
         weeks = next(iter(periods.values())).days.weeks
         days = state.days if known else _first_weeks(self.folder.days(), state.days, weeks)
-        ward = self.folder.ward(state.start.scenario, state.absences, days)
+        ward = self.folder.ward(state.start.scenario, state.absences, days, state.opened)
         after = periods.get(number + 1)
         border = border_of(ward, state_of(after).renamed(ward.name_now)) if after else ()
         return continued(ward.with_border(border), state, past)

@@ -53,6 +53,10 @@ class Asked(NamedTuple):
     # Whether no plan is better than one that breaks an agreed day, or keeps less of absences and
     # limits than the plan before it.
     is_firm: bool = False
+    # Whether open shifts are to be filled, if a plan can, and those that nobody can take are left
+    # open.
+    fills: bool = False
+    opens: bool = False
 
 
 class KnownBound(NamedTuple):
@@ -258,17 +262,15 @@ def _past_claims(old: WardPlan, first: int) -> Iterator[Claim]:
     return (_off(place) for place in places if place not in old.works)
 
 
-def why_no_plan(plan: WardPlan) -> tuple[int, Shortage] | None:
-    """The first week that has no roster, and which minimum numbers to lower in it; None if each
-    week alone has one."""
+def shortages(plan: WardPlan) -> Iterator[tuple[int, Shortage]]:
+    """The weeks that have no roster by themselves, and which minimum numbers to lower in them."""
     with tempfile.TemporaryDirectory(prefix="inrc2pb-plan-") as name:
         for number in plan.weeks:
             past = plan.histories[min(number, len(plan.histories) - 1)]
             week = Week(plan.scenario, replace(past, week=number), plan.data[number])
             shortage = why_none(_week_files(plan, week, Path(name)), week)
             if shortage.places:
-                return number, shortage
-    return None
+                yield number, shortage
 
 
 def _week_files(plan: WardPlan, week: Week, folder: Path) -> WeekFiles:

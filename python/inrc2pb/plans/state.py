@@ -5,6 +5,7 @@ import datetime
 from dataclasses import dataclass, replace
 from typing import Callable, Dict, Iterable, NamedTuple, Optional, Tuple
 
+from ..sheets.open_shifts import OpenShift
 from ..sheets.written_days import DayWord
 from ..week.dates import PlanDays
 from ..week.records import WEEK_DAYS, Cell, History, NurseDay, in_week
@@ -52,6 +53,8 @@ class Record(NamedTuple):
     set_days: Tuple[SetDay, ...] = ()
     typed: str = ""
     period: Optional[int] = None
+    # The shifts that are left open.
+    opened: Tuple[OpenShift, ...] = ()
 
     @property
     def made(self) -> str:
@@ -75,6 +78,7 @@ class State:
     agreed: Tuple[NurseDay, ...] = ()
     set_days: Tuple[SetDay, ...] = ()
     period: int = 0
+    opened: Tuple[OpenShift, ...] = ()
     # Whether the period before it is not over, so it begins as that one is planned.
     is_as_planned: bool = False
 
@@ -122,6 +126,7 @@ class State:
             set_days=self.set_days,
             typed=typed,
             period=self.period,
+            opened=self.opened,
         )
 
     def renamed(self, name_now: Callable[[str], str]) -> "State":

@@ -39,11 +39,17 @@ class Event(NamedTuple):
     look: bool = False
     # Whether it was asked for on the page, which asks before it writes, and not at a terminal.
     on_page: bool = False
+    # Whether shifts that nobody can take are left open.
+    open: bool = False
 
     @property
     def typed(self) -> str:
         """The words that the user typed, with the option that changes what comes of them."""
-        options = [*(["--free"] if self.free else []), *([ON_PAGE] if self.on_page else [])]
+        options = [
+            *(["--free"] if self.free else []),
+            *(["--open"] if self.open else []),
+            *([ON_PAGE] if self.on_page else []),
+        ]
         return " ".join(" ".join((self.verb, *self.words, *options)).split())
 
 
@@ -76,6 +82,11 @@ class Outcome:
     @property
     def needs_search(self) -> bool:
         """Whether only a search can say what a question needs: who moves where."""
+        return False
+
+    @property
+    def may_be_open(self) -> bool:
+        """Whether shifts that nobody can take stand in the way, which may be left open."""
         return False
 
 

@@ -89,8 +89,8 @@ class WardPlan:
         """The needs, wishes, absences and limits of each week, with the days of the week, as judges
         of a week take them."""
         return tuple(
-            with_given(self.scenario, week, self.limits, number)
-            for number, week in enumerate(self.ward.weeks)
+            with_given(self.scenario, self.ward.asked(number), self.limits, number)
+            for number in range(len(self.ward.weeks))
         )
 
     @cached_property
@@ -285,6 +285,7 @@ def continued(ward: Ward, state: State, past: History | None = None) -> WardPlan
     """The plan of a folder, with what its spreadsheet says now; it begins with this history, if the
     period before it is known. Raises Misuse if the spreadsheet has another period, or lacks a name
     of a week that is over; planned shifts whose names it lacks are left out."""
+    ward = ward.with_open(state.opened)
     named = state.renamed(ward.name_now)
     absences = _with_lost_shifts(ward, named)
     if absences != state.absences:

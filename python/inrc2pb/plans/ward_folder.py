@@ -14,6 +14,7 @@ from pathlib import Path
 from typing import Callable, Dict, Iterator, List, Optional, Sequence, TextIO, Tuple
 
 from ..programs.interrupts import interrupts
+from ..sheets.open_shifts import OpenShift
 from ..sheets.plan_days import read_days
 from ..sheets.sheet_files import Book, read_book
 from ..sheets.ward import Ward, ward_name, ward_of
@@ -101,10 +102,12 @@ class WardFolder:
         name: Optional[str] = None,
         absences: Sequence[DayWord] = (),
         period: Optional[PlanDays] = None,
+        opened: Sequence[OpenShift] = (),
     ) -> Ward:
         """The ward of a period of the spreadsheet, or of all its days; it has this name, if it has
-        one, and these days away in its plan."""
-        return ward_of(self.book(), name or ward_name(self.spreadsheet()), absences, period=period)
+        one, and these days away in its plan, and these shifts are left open."""
+        named = name or ward_name(self.spreadsheet())
+        return ward_of(self.book(), named, absences, period=period, opened=opened)
 
     def days(self) -> PlanDays:
         """All days of the sheet plan."""

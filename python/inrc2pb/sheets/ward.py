@@ -37,6 +37,7 @@ from ..week.records import (
 from ..week.slots import MAX_NUMBER
 from .odd_cells import cell_warnings
 from .odd_tables import book_warnings, skill_warnings, ward_warnings
+from .open_shifts import OpenShift, lowered
 from .plan_days import Days, plan_warnings, read_days, week_of_row_warnings
 from .plan_sheets import (
     COUNTED,
@@ -87,16 +88,24 @@ class Ward:
     book: Book
     # The shifts that nurses may not have at the end, since the next period hangs on the wall.
     border: Tuple[Claim, ...] = ()
+    # The shifts that are left open, without which the minimum numbers of files are.
+    opened: Tuple[OpenShift, ...] = ()
 
     def with_absences(self, absences: Sequence[DayWord]) -> "Ward":
         """The ward of the same spreadsheet with other days away that verbs have written."""
-        ward = ward_of(self.book, self.scenario.name, absences, period=self.days)
+        ward = ward_of(
+            self.book, self.scenario.name, absences, period=self.days, opened=self.opened
+        )
         return ward.with_border(self.border)
 
     def with_border(self, border: Tuple[Claim, ...]) -> "Ward":
         """The same with these shifts that nurses may not have at the end."""
         claims = (claim for claim in self.claims if claim not in self.border)
         return replace(self, claims=(*claims, *border), border=border)
+
+    def with_open(self, opened: Sequence[OpenShift]) -> "Ward":
+        """The same with these shifts left open."""
+        return replace(self, opened=tuple(opened))
 
     @cached_property
     def texts(self) -> Dict[str, str]:
@@ -137,7 +146,11 @@ class Ward:
 
     def given(self, number: int) -> WeekData:
         """The data of a week, with its absences and limits."""
-        return with_given(self.scenario, self.weeks[number], self.claims, number)
+        return with_given(self.scenario, self.asked(number), self.claims, number)
+
+    def asked(self, number: int) -> WeekData:
+        """The needs and wishes of a week, with minimum numbers without the open shifts."""
+        return lowered(self.weeks[number], number, self.opened)
 
     @cached_property
     def nights(self) -> FrozenSet[str]:
@@ -198,9 +211,11 @@ def ward_of(
     absences: Sequence[DayWord] = (),
     reasons: Sequence[str] = COUNTED,
     period: Optional[PlanDays] = None,
+    opened: Sequence[OpenShift] = (),
 ) -> Ward:
     """The ward of a period of a spreadsheet that was read, or of all its days. Absences for these
     reasons count as work, illnesses as the shifts that they have taken from plans on the wall.
+    These shifts are left open.
     Raises FileFaults if sheets have mistakes, or more than files can have."""
     written = with_written(book, days_of(book, period), absences)
     days = read_days(written, period)
@@ -229,6 +244,7 @@ def ward_of(
         week_rows=week_rows(written, days),
         was=tables.was,
         book=book,
+        opened=tuple(opened),
     )
     odd, reach = _odd_weeks(ward)
     warnings = [*_odd_sheets(written, days, tables, sheets, ward.times), *odd]

@@ -53,6 +53,7 @@ td small { font-size: .82em }
 .many .away + .mark { display: block; margin: 0; line-height: .8 }
 .changed { border: 2.5px dashed #111 }
 .few { border: 2.5px solid #111 }
+.open { color: #b00020; font-weight: bold }
 .coverage small { white-space: nowrap }
 .hidden { position: absolute; width: 1px; height: 1px; overflow: hidden; clip-path: inset(50%); white-space: nowrap }
 .folds { columns: 27em }
@@ -135,7 +136,8 @@ def _roster(page: Content) -> Markup:
     items = (
         element("ul", *(element("li", line) for line in legend), class_="legend") if legend else ""
     )
-    return element("section", element("h1", title(page)), *lines, *roster.tables(), items)
+    heading = element("h1", title(page))
+    return element("section", heading, *lines, *page.open_lines(), *roster.tables(), items)
 
 
 def section(heading: str, *inside: str, class_: str | None = None) -> Markup:

@@ -26,10 +26,10 @@ class Content:
     is that of the ward for people, if the roster's own one is not, and `since` says which the older
     roster is. `holidays` are days from the first Monday on with numbers of their own, as bank
     holidays have, `as_of` says when the page was made, `notes` are lines on what to look at,
-    `swapped` has the weeks of the table, nurses and days of swaps that were written, `promised`
-    those of days that were promised, and `plan` is the name of the plan of a ward's folder that the
-    page shows. `sums` has what each nurse has in the whole period, and `all_sums` in that and all
-    earlier ones of the folder, if there are some.
+    `opened` lines on shifts that are left open, `swapped` has the weeks of the table, nurses and
+    days of swaps that were written, `promised` those of days that were promised, and `plan` is the
+    name of the plan of a ward's folder that the page shows. `sums` has what each nurse has in the
+    whole period, and `all_sums` in that and all earlier ones of the folder, if there are some.
     """
 
     view: RosterView
@@ -43,6 +43,7 @@ class Content:
     holidays: Collection[int] = ()
     as_of: datetime.datetime | None = None
     notes: Sequence[str] = ()
+    opened: Sequence[str] = ()
     swapped: Collection[tuple[int, str, int]] = ()
     promised: Collection[tuple[int, str, int]] = ()
     plan: str = ""
@@ -89,6 +90,10 @@ class Content:
     def changes(self) -> list[Change]:
         """What differs from the older roster."""
         return changes(self.old, self.view) if self.old else []
+
+    def open_lines(self) -> list[Markup]:
+        """A red line for each shift that is left open."""
+        return [element("p", line, class_="open") for line in self.opened]
 
 
 def table(

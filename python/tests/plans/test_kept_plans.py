@@ -670,9 +670,10 @@ class Weeks(KeptTest):
             ["Late Nurse"] * 2 + [""] * 3 + ["Late Nurse"] * 2,
         )
 
-        # Late Nurse has nobody on Friday, so the week has no cost.
+        # Late Nurse has nobody on Friday, which counts as a shift that was left open.
         text = "".join(page.getroot().itertext())
-        self.assertIn("Week 1 (calendar week 49) has no cost, since it breaks rule H2.", text)
+        self.assertIn("Late Nurse, Fri 4 Dec: 1 nurse missing", text)
+        self.assertNotIn("H2", text)
         self.assertNotIn("Nothing is charged", text)
         self.does("over")
         text = (self.ward / "worked-2026-11-30.html").read_text()

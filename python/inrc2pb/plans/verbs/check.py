@@ -16,6 +16,7 @@ from ...shown.week_sentences import DescribedWeek, weeks_sentences
 from ...shown.why import plain_breach_lines
 from ...week.records import WEEK_DAYS, in_week
 from ...week.words import joined, readable
+from ..left_open import all_open_lines
 from ..odd_sheet import warning_lines
 from ..sentences import beside_lines, exceeded_lines, working_lines
 from ..reading import Strangers
@@ -47,7 +48,12 @@ class Checked(Outcome):
             *self.later,
             *(
                 f"warning: {line}"
-                for line in (*working_lines(plan), *exceeded_lines(plan), *beside_lines(plan))
+                for line in (
+                    *all_open_lines(plan),
+                    *working_lines(plan),
+                    *exceeded_lines(plan),
+                    *beside_lines(plan),
+                )
             ),
         ]
         if plan.is_planned and plan.weeks:

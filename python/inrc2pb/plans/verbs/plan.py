@@ -32,7 +32,8 @@ def _done(store: PlanStore, event: Event) -> Outcome:
     first = _first_day(old, event)
     say(store, warning_lines(old, anew=store.anew(old), strangers=store.strangers(old)))
     few = old.state.published and old.is_planned and not event.free
-    asked = Asked(first, few, event.seconds or WEEK_SECONDS * len(old.weeks), do=event.do)
+    seconds = event.seconds or WEEK_SECONDS * len(old.weeks)
+    asked = Asked(first, few, seconds, do=event.do, fills=True)
     keeping = replace(old, limits=limits_of(old.ward, old.state, first))
     return searched(
         store, event, "plan", keeping, asked._replace(agreed=Keep.NONE) if event.free else asked

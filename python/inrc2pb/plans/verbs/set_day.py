@@ -8,6 +8,7 @@ from ...sheets.written_days import BACK
 from ...week.faults import FileFault, Misuse, ProgramFault, Stopped
 from ...week.records import Cell, NurseDay
 from ...week.words import OFF, readable
+from ..left_open import left_open, new_open_lines, with_fewer_open
 from ..nurse_weeks import Fault
 from ..offers import MOST_OFFERS, changed_lines, offer_text, reason_text, refused_lines
 from ..planning import CHANGE_SECONDS, searched
@@ -18,6 +19,9 @@ from ..store import PlanStore, penalties
 from ..swaps import MOST_POINTS, Instead, Offer, Swaps
 from ..verb import Event, Form, Outcome, Status, Verb, cell_of, saved, wording_of
 from ..ward import PROMISED, WardPlan
+
+# How a shift is left open that only this nurse fills.
+OPEN_TEXT = "with --open the shift that she leaves stays open"
 
 
 @dataclass(frozen=True)
@@ -61,6 +65,11 @@ class DaySet(Outcome):
         costs = [way.cost for way in self.instead if way.swap] + [self.cost] * (not self.faults)
         return all(cost > MOST_POINTS for cost in costs)
 
+    @property
+    def may_be_open(self) -> bool:
+        """Whether only a minimum number is in the way."""
+        return bool(self.faults) and all(one.is_minimum for one in self.faults)
+
     def heads(self, is_look: bool = False) -> list[str]:
         """What is promised, and what it replaces."""
         text = _promise_text(self.old, self.promise)
@@ -85,10 +94,12 @@ class DaySet(Outcome):
             ]
         elif self.faults:
             none = ["a search for a plan with it has found none"] if self.has_searched else []
-            return [*refused_lines(self.old, [*self.faults]), *none, *self._instead()]
+            stays = [OPEN_TEXT] if self.may_be_open else []
+            return [*refused_lines(self.old, [*self.faults]), *none, *stays, *self._instead()]
         else:
             *older, promise = self.heads()
-            said = [*older, *changed_lines(self.old, self.new), promise]
+            opened = new_open_lines(self.old, self.new)
+            said = [*older, *changed_lines(self.old, self.new), *opened, promise]
         if not self.is_written:
             instead = [] if self.takes_back else self._instead()
             return [*said, f"nothing is written: {write}", *instead] if write else said
@@ -141,8 +152,11 @@ def set_day(old: WardPlan, event: Event) -> DaySet:
             f" plans keep it: {cure}"
         )
     swaps = Swaps(old)
-    faults = tuple(swaps.day_faults(place, now))
+    faults = tuple(
+        fault for fault in swaps.day_faults(place, now) if not (event.open and fault.is_minimum)
+    )
     new = _with_set_day(old, promise)
+    new = left_open(new, new.first) if event.open else with_fewer_open(new)
     instead = tuple(swaps.instead(place, now))
     replaces = old.state.promised.get(place)
     return DaySet(
@@ -153,7 +167,9 @@ def set_day(old: WardPlan, event: Event) -> DaySet:
         instead=instead,
         replaces=replaces,
         cost=swaps.day_cost(place, now),
-        may_be=event.seconds != 0 and all(swaps.may_vanish(fault, place) for fault in faults),
+        may_be=event.seconds != 0
+        and not event.open
+        and all(swaps.may_vanish(fault, place) for fault in faults),
         verb=_verb(old, place, now.shift if now else OFF),
         status=Status.NOT_KEPT if faults else Status.DONE,
     )
