@@ -253,8 +253,9 @@ def sums(plan: WardPlan) -> dict[str, Sums]:
         plan.scenario.nurses,
         plan.state.cells,
         wishes_of_weeks(enumerate(plan.data)),
-        plan.days_away.nights,
+        plan.ward.nights,
         plan.ward.times,
+        plan.ward.credit,
     )
 
 

@@ -7,9 +7,9 @@ from ..judging.absences import wishes_of_weeks
 from ..shown.totals import Sums, sums_of
 from ..week.dates import PlanDays
 from ..week.faults import FileFault
-from ..week.files import read_scenario, read_solution, read_week
+from ..week.files import read_solution
 from ..week.records import WEEK_DAYS, Cell
-from .periods import Period, state_of
+from .periods import Period, past_plan
 from .plan_files import known_record, roster_name
 from .ward import WardPlan
 
@@ -18,16 +18,18 @@ def sums_of_period(period: Period, plan: WardPlan) -> dict[str, Sums]:
     """What each nurse had in a period; the times of shift types, and which are nights, are those of
     another plan."""
     try:
-        ward = read_scenario(period.folder / "ward.txt")
-        weeks = [
-            read_week(period.folder / f"week-{number}.txt", ward)
-            for number in range(period.days.weeks)
-        ]
-        worked = state_of(period).cells
+        past = past_plan(period, plan.ward)
     except (FileFault, OSError):
         return {}
-    wishes = wishes_of_weeks(enumerate(weeks))
-    return sums_of(ward.nurses, worked, wishes, plan.days_away.nights, plan.ward.times)
+    wishes = wishes_of_weeks(enumerate(past.ward.weeks))
+    return sums_of(
+        past.scenario.nurses,
+        past.state.cells,
+        wishes,
+        plan.ward.nights,
+        plan.ward.times,
+        past.ward.credit,
+    )
 
 
 def published_days(folders: Iterable[Path], days: PlanDays) -> dict[str, set[int]]:

@@ -94,7 +94,10 @@ def sums_table(page: Content) -> Markup | None:
         [first(readable(nurse)), *(element("td", number) for number in of_nurse)]
         for nurse, of_nurse in numbers.items()
     ]
-    return table("Shifts, nights, weekends and wishes of each nurse", [above, head], rows, "totals")
+    caption = (
+        "Shifts, nights, weekends and wishes of each nurse; days away count as in her contract"
+    )
+    return table(caption, [above, head], rows, "totals")
 
 
 # ---- wishes and changes

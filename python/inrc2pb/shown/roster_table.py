@@ -3,6 +3,7 @@ and without sight."""
 
 from typing import Iterator, Mapping, Sequence
 
+from ..week.dates import hours_text
 from ..week.words import OFF, readable
 from .changes import shifts_text
 from .markup import Markup, element, hidden, joined, shown
@@ -19,7 +20,7 @@ from .page_content import (
 )
 from .roster_text import COLORS, cuts
 from .roster_view import MEANINGS, ShownCell
-from .totals import sum_heads, worked
+from .totals import mean_length, sum_heads, worked
 
 # Weeks next to one another in a table, so that it fits a page.
 WEEKS_OF_ROSTER = 4
@@ -34,14 +35,14 @@ WEEKENDS = "WE"
 SUM_HEADS = {
     "shifts": "\u03a3",
     "hours": "h",
-    "nights": "N",
+    "nights": "nights",
     "weekends": WEEKENDS,
     "wishes granted": "W",
 }
 MEANINGS_OF_SUMS = {
-    "shifts": "shifts in the period",
-    "hours": "hours",
-    "nights": "nights",
+    "shifts": "shifts in the period, with those as which days away count",
+    "hours": "hours of these, {} for each day away that counts as a shift",
+    "nights": "shifts that take a part of the night",
     "weekends": "weekends with work",
     "wishes granted": "wishes granted, of all",
 }
@@ -222,8 +223,9 @@ class RosterTable:
         if self.page.holidays:
             lines.append(f"{HOLIDAY} = {HOLIDAY_MEANING}")
         if self.page.only_table and self.page.sums:
+            mean = hours_text(mean_length(self.page.times))
             return lines + [
-                f"{SUM_HEADS[head]} = {MEANINGS_OF_SUMS[head]}"
+                f"{SUM_HEADS[head]} = {MEANINGS_OF_SUMS[head].format(mean)}"
                 for head in sum_heads(bool(self.page.times))
             ]
         return lines + ([f"{WEEKENDS} = weekends with work"] if self.page.only_table else [])

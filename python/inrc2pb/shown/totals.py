@@ -109,9 +109,9 @@ def worked(view: RosterView) -> dict[str, list[int]]:
 
 
 class Sums(NamedTuple):
-    """What a nurse has in one or more periods: her shifts, their hours, which are none if their
-    times are not known, her nights, her weekends with work, her wishes, and how many of these are
-    granted."""
+    """What a nurse has in one or more periods: her shifts, with those as which days away count, the
+    hours of both, which are none if times are not known, her nights, her weekends with work, her
+    wishes, and how many of these are granted."""
 
     shifts: int = 0
     hours: datetime.timedelta = datetime.timedelta()
@@ -148,15 +148,23 @@ def sum_heads(has_times: bool) -> list[str]:
     return ["shifts", *(["hours"] if has_times else []), "nights", "weekends", "wishes granted"]
 
 
+def mean_length(times: Mapping[str, Times]) -> datetime.timedelta:
+    """How long the shift types last on average; nothing if their times are not known."""
+    lengths = [of_type.length for of_type in times.values()]
+    return sum(lengths, datetime.timedelta()) / max(1, len(lengths))
+
+
 def sums_of(
     nurses: Iterable[str],
     cells: Sequence[Cell],
     wishes: Iterable[Request],
     nights: Collection[str],
     times: Mapping[str, Times],
+    credit: Mapping[str, int] = {},
 ) -> dict[str, Sums]:
     """The sums of nurses with these shifts and wishes of a period, both with its days; `nights` has
-    the shift types of the night."""
+    the shift types of the night, and `credit` the shifts as which days away count, each with the
+    hours of the mean of the shift types."""
     rows: dict[str, dict[int, str]] = {nurse: {} for nurse in nurses}
     for cell in cells:
         rows.setdefault(cell.nurse, {})[cell.day] = cell.shift
@@ -165,10 +173,10 @@ def sums_of(
     refused = collections.Counter(wish.nurse for wish in not_granted(asked, cells))
     return {
         nurse: Sums(
-            shifts=len(row),
+            shifts=len(row) + credit.get(nurse, 0),
             hours=sum(
                 (times[shift].length for shift in row.values() if shift in times),
-                datetime.timedelta(),
+                credit.get(nurse, 0) * mean_length(times),
             ),
             nights=sum(shift in nights for shift in row.values()),
             weekends=len({day // len(DAYS) for day in row if day % len(DAYS) >= SATURDAY}),

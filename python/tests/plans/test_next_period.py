@@ -117,13 +117,14 @@ class NextPeriod(PeriodTest):
         self.assertEqual(rows["Chen"][5:], ["20", "173", "12", "4", "0/1"])
 
     def test_sums_of_all_periods_are_those_of_shifts_that_were_worked(self):
-        # Grace has five shifts of 8:30 hours in each week, and takes two of the last week off.
+        # Grace has five shifts of 8:30 hours in each week, is off on one of the last week, and ill on
+        # another, which counts as a shift of 8:35 hours, the mean of the shift types.
         self.does("over")
         self.does("over", "Grace", "Thu", "off", "Grace", "Fri", "ill")
         self.write_next(MONDAY + datetime.timedelta(days=14))
         self.plan_next()
         self.does("page")
-        self.assertEqual(self.sums("roster.html")["Grace"][5:7], ["18", "153"])
+        self.assertEqual(self.sums("roster.html")["Grace"][5:7], ["19", "162"])
 
     def test_each_period_without_dates_has_a_page_of_its_weeks(self):
         for folder in (self.ward / "plans").glob("0*"):

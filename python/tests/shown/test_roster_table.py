@@ -10,6 +10,8 @@ from ward import HISTORY, ROSTER, SCENARIO, WARD, WEEK, WEEK_OPTIONS
 from inrc2pb.shown.page import page_text
 from inrc2pb.shown.page_content import Content
 from inrc2pb.shown.roster_files import RosterFiles, read_view
+from inrc2pb.shown.totals import Sums
+from inrc2pb.week.dates import times_of
 from inrc2pb.week.records import DAYS
 
 
@@ -120,6 +122,26 @@ class Rosters(PageTest):
         self.assertEqual(
             (rows["nurse"], rows["Finn"], rows["Grace"]),
             (["Day", "Late", "Night", "WE"], [*"0501"], [*"5000"]),
+        )
+
+    def test_the_legend_says_how_days_away_are_in_the_sums(self):
+        names = ("Day", "Late", "Night")
+        times = dict(
+            zip(names, map(times_of, ("07:00-15:30", "14:30-23:00", "22:30-07:15"), names))
+        )
+        sums = {nurse: Sums(shifts=5) for nurse in ("Finn", "Grace")}
+        view = read_view(RosterFiles([ROSTER]))
+        page = page_text(Content(view, times=times, sums=sums, only_table=True))
+        items = [words(item) for item in ElementTree.fromstring(page).iter("li")]
+        self.assertEqual(
+            items[-5:],
+            [
+                "\u03a3 = shifts in the period, with those as which days away count",
+                "h = hours of these, 8:35 hours for each day away that counts as a shift",
+                "nights = shifts that take a part of the night",
+                "WE = weekends with work",
+                "W = wishes granted, of all",
+            ],
         )
 
     def test_the_rows_of_a_ward_that_just_fits_a_page_are_high(self):

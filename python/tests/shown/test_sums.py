@@ -35,6 +35,15 @@ class Numbers(unittest.TestCase):
         self.assertEqual(self.found(times={})["Grace"].texts(False), ["5", "0", "0", "-"])
         self.assertEqual(sum_heads(False), ["shifts", "nights", "weekends", "wishes granted"])
 
+    def test_days_away_count_as_in_the_contract(self):
+        # Three shifts more, each with the mean of 8:30, 8:30 and 8:45 hours, and neither nights nor
+        # weekends.
+        grace = sums_of(WARD.nurses, CELLS, (), ("Night",), TIMES, {"Grace": 3})["Grace"]
+        self.assertEqual((grace.shifts, grace.nights, grace.weekends), (8, 0, 0))
+        self.assertEqual(grace.hours, datetime.timedelta(hours=5 * 8.5, minutes=3 * 515))
+        without = sums_of(WARD.nurses, CELLS, (), ("Night",), {}, {"Grace": 3})["Grace"]
+        self.assertEqual((without.shifts, without.hours), (8, datetime.timedelta()))
+
     def test_wishes(self):
         # Chen is off on Monday, has Night on Saturday, and has Late, and no Night, on Wednesday.
         # Equal wishes are one.
