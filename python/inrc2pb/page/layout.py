@@ -15,7 +15,7 @@ from ..plans.verbs.swap import Swapped
 from ..plans.ward import WardPlan
 from ..shown.calendars import file_names
 from ..shown.markup import Markup, element, joined
-from ..shown.page import page_style
+from ..shown.page import document, page_style
 from ..shown.roster_table import RosterTable
 from ..week.records import WEEK_DAYS, NurseDay
 from ..week.words import readable
@@ -148,10 +148,10 @@ def page_markup(plan: Optional[WardPlan], shown: Shown, address: str) -> str:
         if shown.place
         else ""
     )
-    heads = [element("style", Markup(page_style() + STYLE + chosen))]
+    heads = [element("title", name), element("style", Markup(page_style() + STYLE + chosen))]
     if said.runs:
         heads.append(element("meta", http_equiv="refresh", content=str(REFRESH_SECONDS)))
-    return page_of(name, heads, parts)
+    return document(heads, parts)
 
 
 def _forms(plan: WardPlan, shown: Shown, address: str) -> Markup:
@@ -199,14 +199,6 @@ def _without_plan(shown: Shown, address: str) -> List[Markup]:
         ),
         element("p", *_linked(_worked(shown), address), class_="links"),
     ]
-
-
-def page_of(name: str, head: Sequence[Markup], parts: Sequence[Markup]) -> str:
-    """A page with this title."""
-    width = element("meta", name="viewport", content="width=device-width")
-    heads = [element("meta", charset="utf-8"), width, element("title", name), *head]
-    body = element("body", element("main", *(joined(part, Markup("\n")) for part in parts)))
-    return f"<!DOCTYPE html>\n{element('html', element('head', *heads), body, lang='en')}\n"
 
 
 def _lines(lines: Sequence[str], is_fault: bool) -> List[Markup]:
@@ -305,9 +297,7 @@ def calendars_markup(plan: WardPlan, address: str, there: Collection[str]) -> st
         else "There are none yet: the button Publish writes them, if the plan has dates."
     )
     back = element("p", element("a", "Back", href=address))
-    style = element("style", Markup(page_style() + STYLE))
-    return page_of(
-        "Calendars",
-        [style],
+    return document(
+        [element("title", "Calendars"), element("style", Markup(page_style() + STYLE))],
         [element("h1", "Calendars"), element("p", text), element("ul", *items), back],
     )

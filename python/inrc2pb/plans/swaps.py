@@ -30,9 +30,14 @@ class Swap(NamedTuple):
     days: tuple[int, ...]
 
     @property
+    def pairs(self) -> tuple[tuple[str, str], tuple[str, str]]:
+        """Each nurse with the one whose shifts she gets."""
+        return (self.nurse, self.other), (self.other, self.nurse)
+
+    @property
     def places(self) -> list[NurseDay]:
         """The days of both nurses."""
-        return [NurseDay(nurse, day) for nurse in (self.nurse, self.other) for day in self.days]
+        return [NurseDay(nurse, day) for nurse, _ in self.pairs for day in self.days]
 
 
 class Offer(NamedTuple):
@@ -53,11 +58,12 @@ class Instead(NamedTuple):
 
 def swapped(cells: Sequence[Cell], swap: Swap) -> list[Cell]:
     """The shifts after the swap."""
-    pairs = ((swap.nurse, swap.other), (swap.other, swap.nurse))
-    return exchanged(
-        cells,
-        {NurseDay(nurse, day): NurseDay(other, day) for nurse, other in pairs for day in swap.days},
+    days = (
+        (NurseDay(nurse, day), NurseDay(other, day))
+        for nurse, other in swap.pairs
+        for day in swap.days
     )
+    return exchanged(cells, dict(days))
 
 
 class Swaps:
@@ -78,7 +84,7 @@ class Swaps:
 
     def _after(self, swap: Swap) -> Iterator[tuple[str, dict[int, Cell]]]:
         """The shifts of the two nurses after the swap."""
-        for nurse, other in ((swap.nurse, swap.other), (swap.other, swap.nurse)):
+        for nurse, other in swap.pairs:
             kept = {day: cell for day, cell in self._cells[nurse].items() if day not in swap.days}
             gained = {
                 day: cell._replace(nurse=nurse)

@@ -28,6 +28,7 @@ from ..week.records import (
     Week,
     WeekData,
     in_a_row,
+    in_plan,
     in_week,
     together,
 )
@@ -106,12 +107,8 @@ class WardPlan:
     @cached_property
     def absences(self) -> frozenset[Absence]:
         """The shifts that nurses may not have in the weeks that are not over."""
-        weeks = ((WEEK_DAYS * number, absences_of(self.data[number])) for number in self.weeks)
-        return frozenset(
-            absence._replace(day=first + absence.day)
-            for first, of_week in weeks
-            for absence in of_week
-        )
+        absences = in_plan(absences_of(week) for week in self.data)
+        return frozenset(absence for absence in absences if absence.day >= self.first)
 
     def may_have(self, cell: Cell) -> bool:
         """Whether a nurse may have this shift beside her absences, by her skills."""
@@ -122,19 +119,22 @@ class WardPlan:
         """The days of the weeks that are not over on which nurses are away, and why: a word of the
         sheet plan, `promised` for days off that it promises, or `off` for days on which they are
         always off."""
-        off = (
-            NurseDay(absence.nurse, absence.day)
-            for absence in self.absences
-            if absence.shift is None
-        )
-        words = {
-            place: word for place, word in self.ward.reasons.items() if place.day >= self.first
-        }
-        return {**{place: self._off_word(place) for place in off}, **words}
+        return {place: word for place, word in self._away.items() if place.day >= self.first}
 
-    def _off_word(self, place: NurseDay) -> str:
-        """Why a nurse has no shift on a day on which the spreadsheet says that she is off."""
-        return PROMISED if place in self.ward.promised else ALWAYS_OFF
+    @cached_property
+    def _away(self) -> dict[NurseDay, str]:
+        """The same with the days of weeks that are over."""
+        off = in_plan(absences_of(week) for week in self.data)
+        return {
+            **{
+                absence.nurse_day: PROMISED
+                if absence.nurse_day in self.ward.promised
+                else ALWAYS_OFF
+                for absence in off
+                if absence.shift is None
+            },
+            **self.ward.reasons,
+        }
 
     @cached_property
     def days_away(self) -> DaysAway:
@@ -239,21 +239,11 @@ class WardPlan:
     def reasons(self, number: int) -> dict[tuple[str, int], str]:
         """Why nurses are away on the days of a week, also of one that is over, with the days of the
         week."""
-        days = [
-            (absence.nurse, absence.day)
-            for absence in absences_of(self.data[number])
-            if absence.shift is None
-        ]
-        off = {
-            (nurse, day): self._off_word(NurseDay(nurse, WEEK_DAYS * number + day))
-            for nurse, day in days
-        }
-        words = {
+        return {
             (nurse, day % WEEK_DAYS): word
-            for (nurse, day), word in self.ward.reasons.items()
+            for (nurse, day), word in self._away.items()
             if day // WEEK_DAYS == number
         }
-        return {**off, **words}
 
 
 def plan_of(ward: Ward, state: State, unknown: tuple[Cell, ...] = ()) -> WardPlan:
@@ -314,7 +304,7 @@ def continued(ward: Ward, state: State, past: History | None = None) -> WardPlan
 def _with_lost_shifts(ward: Ward, state: State) -> tuple[DayWord, ...]:
     """The words of verbs, and for an illness that only the spreadsheet has the shifts that it takes
     from a plan on the wall, if it takes some."""
-    known = {(absence.nurse, absence.day) for absence in state.absences}
+    known = {absence[:2] for absence in state.absences}
     words = list(state.absences)
     works = {cell.nurse_day for cell in state.cells}
     ill = together(

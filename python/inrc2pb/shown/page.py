@@ -221,12 +221,13 @@ def _details(page: Content) -> list[Markup]:
 def page_text(page: Content) -> str:
     """The page: well-formed XML, and HTML."""
     parts = [_roster(page), *([] if page.only_table else _details(page))]
-    meta = [
-        element("meta", charset="utf-8"),
-        element("meta", name="viewport", content="width=device-width"),
-    ]
-    if page.plan:
-        meta.append(element("meta", name="plan", content=page.plan))
-    head = element("head", *meta, element("title", title(page)), element("style", page_style()))
+    plan = [element("meta", name="plan", content=page.plan)] if page.plan else []
+    return document([*plan, element("title", title(page)), element("style", page_style())], parts)
+
+
+def document(heads: Sequence[Markup], parts: Sequence[Markup]) -> str:
+    """A page with these elements in its head."""
+    width = element("meta", name="viewport", content="width=device-width")
+    head = element("head", element("meta", charset="utf-8"), width, *heads)
     body = element("body", element("main", *(joined(part, Markup("\n")) for part in parts)))
     return f"<!DOCTYPE html>\n{element('html', head, Markup(chr(10)), body, lang='en')}\n"

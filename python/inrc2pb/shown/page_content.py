@@ -3,10 +3,11 @@ rows and columns, and days."""
 
 import datetime
 from dataclasses import dataclass, field
-from typing import Callable, Collection, Mapping, Sequence
+from typing import Callable, Collection, Iterable, Mapping, Sequence
 
 from ..week.dates import DAY, Times, day_names
 from ..week.records import DAYS, week_name
+from ..week.words import readable
 from .changes import Change, changes
 from .markup import Markup, element, hidden, joined, shown
 from .roster_view import AWAY, HELD, RosterView
@@ -122,6 +123,21 @@ def column(text: str, class_: str | None = None) -> Markup:
 def first(text: str) -> Markup:
     """The head of a row."""
     return element("th", text, scope="row")
+
+
+def cells(texts: Iterable[str], class_: str | None = None) -> list[Markup]:
+    """The cells of a row."""
+    return [element("td", text, class_=class_) for text in texts]
+
+
+def named_row(nurse: str, texts: Iterable[str]) -> list[Markup]:
+    """A nurse's row: her name, and these cells."""
+    return [first(readable(nurse)), *cells(texts)]
+
+
+def classes(*kinds: str | None) -> str | None:
+    """The classes of an element, as far as it has them."""
+    return " ".join(kind for kind in kinds if kind) or None
 
 
 def weekend_class(day: int) -> str | None:

@@ -5,7 +5,17 @@ from typing import Iterator, Sequence
 
 from ..week.words import readable, wish_text
 from .markup import Markup, element, hidden, joined, shown
-from .page_content import Content, column, day_heads, first, groups_of_weeks, table, weekend_class
+from .page_content import (
+    Content,
+    classes,
+    column,
+    day_heads,
+    first,
+    groups_of_weeks,
+    named_row,
+    table,
+    weekend_class,
+)
 from .roster_view import Covered, coverage
 from .totals import Sums, Totals, Wish, sum_heads, totals
 
@@ -63,7 +73,7 @@ def totals_table(page: Content) -> Markup | None:
         ]
         if view.has_costs:
             numbers.append(str(sum(view.costs[nurse].values())))
-        rows.append([first(readable(nurse)), *(element("td", number) for number in numbers)])
+        rows.append(named_row(nurse, numbers))
     head = joined(*map(column, [*heads, *(["cost"] if view.has_costs else [])]))
     caption = (
         "Totals: shifts and weekends in the period until now, shifts of each type and wishes in"
@@ -86,13 +96,11 @@ def sums_table(page: Content) -> Markup | None:
         *(element("th", name, scope="colgroup", colspan=str(len(heads))) for name in names),
     )
     head = joined(column("nurse"), *(column(name) for _ in groups for name in heads))
-    numbers = {
-        nurse: [number for sums in groups for number in sums.get(nurse, Sums()).texts(has_times)]
-        for nurse in page.view.nurses
-    }
     rows = [
-        [first(readable(nurse)), *(element("td", number) for number in of_nurse)]
-        for nurse, of_nurse in numbers.items()
+        named_row(
+            nurse, [text for sums in groups for text in sums.get(nurse, Sums()).texts(has_times)]
+        )
+        for nurse in page.view.nurses
     ]
     caption = (
         "Shifts, nights, weekends and wishes of each nurse; days away count as in her contract"
@@ -116,7 +124,7 @@ def wishes_table(page: Content) -> Markup | None:
                 ", ".join(_wish(page, wish) for wish in total.wishes if wish.granted == granted)
                 for granted in (True, False)
             ]
-            rows.append([first(readable(nurse)), *(element("td", text) for text in texts)])
+            rows.append(named_row(nurse, texts))
     return (
         table("Wishes", [joined(*map(column, ("nurse", "granted", "missed")))], rows, "words")
         if rows
@@ -133,7 +141,7 @@ def changes_table(page: Content) -> Markup | None:
             readable(change.before_text),
             readable(change.now_text),
         )
-        rows.append([first(readable(change.nurse)), *(element("td", text) for text in texts)])
+        rows.append(named_row(change.nurse, texts))
     heads = joined(*map(column, ("nurse", "day", "before", "now")))
     return (
         table(f"{len(rows)} changes since {page.since}", [heads], rows, "words") if rows else None
@@ -155,7 +163,7 @@ def _covered(place: Covered, day: int) -> Markup:
         words = f"{place.number - place.wanted} too many"
         sign = f"+{place.number - place.wanted}"
     range_ = f"{place.minimum}\u2013{place.optimal}" if any(place[1:]) else ""
-    kinds = [weekend_class(day), "few" if sign.startswith(MINUS) else "more" if sign else None]
+    kind = "few" if sign.startswith(MINUS) else "more" if sign else None
     parts = [element("b", str(place.number))] if any(place) else []
     if sign:
         parts.append(joined(" ", shown(sign, class_="mark"), hidden(words)))
@@ -168,7 +176,7 @@ def _covered(place: Covered, day: int) -> Markup:
                 ),
             )
         )
-    return element("td", *parts, class_=" ".join(kind for kind in kinds if kind) or None)
+    return element("td", *parts, class_=classes(weekend_class(day), kind))
 
 
 def coverage_tables(page: Content) -> Iterator[Markup]:

@@ -11,6 +11,8 @@ from .page_content import (
     HOLIDAY,
     HOLIDAY_MEANING,
     Content,
+    cells,
+    classes,
     column,
     day_heads,
     first,
@@ -82,7 +84,7 @@ class RosterTable:
                 [
                     self._name(nurse, weeks[0]),
                     *(self._cell(week, nurse, day) for week in weeks for day in range(7)),
-                    *(element("td", number, class_="sum") for number in beside.get(nurse, ())),
+                    *cells(beside.get(nurse, ()), "sum"),
                 ]
                 for nurse in self.view.nurses
             ]
@@ -162,7 +164,7 @@ class RosterTable:
                     tabindex="-1",
                 )
             ]
-        return element("td", *parts, class_=" ".join(kind for kind in kinds if kind) or None)
+        return element("td", *parts, class_=classes(*kinds))
 
     def _why(self, week: int, nurse: str, day: int) -> str:
         """Why a nurse is away on a day. On a wall nobody reads why, and a day off is one for

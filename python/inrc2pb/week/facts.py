@@ -8,7 +8,7 @@ from 1.
 from typing import Callable, Iterable, NamedTuple, Sequence
 
 from .records import DAYS, NONE, Place, Scenario
-from .slots import PathLike, Slots
+from .slots import MAX_WEEKS, PathLike, Slots
 
 # The kinds of charges: days in runs of a shift type, working days in a row, and totals of
 # assignments and of weekends.
@@ -19,7 +19,6 @@ WEEKENDS = "WEEKENDS"
 KINDS = (SHIFT_RUNS, WORK_DAYS, SHIFTS, WEEKENDS)
 HOLDS = "HOLDS"
 NOT = "NOT"
-MAX_WEEKS = 52
 
 
 class Choice(NamedTuple):

@@ -140,6 +140,11 @@ class Absence(NamedTuple):
     day: int
     shift: str | None
 
+    @property
+    def nurse_day(self) -> NurseDay:
+        """The nurse's day."""
+        return NurseDay(self.nurse, self.day)
+
 
 class KeptLimit(NamedTuple):
     """A maximum of a nurse's contract that may be exceeded at most so often in a plan. The kinds
@@ -209,6 +214,8 @@ class Week:
 
 # ---- days and weeks of a plan, whose days count from its first Monday
 
+_Dated = TypeVar("_Dated", Cell, Absence)
+
 
 def in_week(cells: Iterable[Cell], week: int) -> tuple[Cell, ...]:
     """The shifts of a week, with the days of the week, as files have them."""
@@ -217,12 +224,13 @@ def in_week(cells: Iterable[Cell], week: int) -> tuple[Cell, ...]:
     )
 
 
-def in_plan(rosters: Iterable[Sequence[Cell]]) -> tuple[Cell, ...]:
-    """The shifts of weeks, one after another from the first one on, with the days of the plan."""
+def in_plan(weeks: Iterable[Iterable[_Dated]]) -> tuple[_Dated, ...]:
+    """The shifts or absences of weeks, one after another from the first one on, with the days of
+    the plan."""
     return tuple(
-        cell._replace(day=WEEK_DAYS * week + cell.day)
-        for week, cells in enumerate(rosters)
-        for cell in cells
+        one._replace(day=WEEK_DAYS * week + one.day)
+        for week, of_week in enumerate(weeks)
+        for one in of_week
     )
 
 
