@@ -37,6 +37,7 @@ from ..week.records import (
 from ..week.slots import MAX_NUMBER
 from .odd_cells import cell_warnings
 from .odd_tables import book_warnings, skill_warnings, ward_warnings
+from .employment import employed, with_changed_contracts
 from .open_shifts import OpenShift, lowered
 from .plan_days import Days, plan_warnings, read_days, week_of_row_warnings
 from .plan_sheets import (
@@ -217,12 +218,15 @@ def ward_of(
     reasons count as work, illnesses as the shifts that they have taken from plans on the wall.
     These shifts are left open.
     Raises FileFaults if sheets have mistakes, or more than files can have."""
-    written = with_written(book, days_of(book, period), absences)
+    columns = days_of(book, period)
+    here, away_words, changes = employed(book, columns)
+    written = with_written(here, columns, [*away_words, *absences])
     days = read_days(written, period)
     with Gathering() as faults:
         tables = read_ward(written, name, days.weeks, faults)
         sheets = read_weeks(written, tables, days, faults)
     check_held(tables, sheets)
+    tables = with_changed_contracts(tables, changes, days.plan_days.total)
     away = _in_plan(sheet.reasons for sheet in sheets)
     as_shifts = counted(tables.scenario, away, reasons, lost_shifts(absences))
     tables = with_part_contracts(tables, sheets)

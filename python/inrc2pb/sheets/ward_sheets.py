@@ -32,7 +32,7 @@ HEADS = {
         ("nurse", "contract", "skills"),
         tuple(
             "never,always off,worked,worked weekends,last shift,days on it,days of work,"
-            "days off,was".split(",")
+            "days off,was,from,until".split(",")
         ),
     ),
     "needs": (("shift", "skill", *(day.casefold() for day in DAYS)), ("week",)),
