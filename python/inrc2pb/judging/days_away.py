@@ -1,5 +1,6 @@
-"""Days away that concern the days beside them: training is work in a row, and before training or
-leave nobody should have a night shift."""
+"""What plans keep of which `inrc2pb` knows nothing. Days away concern the days beside them:
+training is work in a row, and before training or leave nobody should have a night shift. And nobody
+should have shift types with a maximum that holds on more days in a row."""
 
 from typing import Collection, Iterator, Mapping, NamedTuple
 
@@ -8,14 +9,21 @@ from ..week.records import History, NurseDay, Scenario, in_a_row
 
 class DaysAway(NamedTuple):
     """The days of `training` count as work in a row, and on the day before each of `free` nobody
-    should have a shift type of `nights`, which end on the next day. Days count from the first
-    Monday of the plan; those before `fixed` do not change.
+    should have a shift type of `nights`, which end on the next day. Of the shift types of `kept`
+    nobody should have more days in a row than their maximum. Days count from the first Monday of
+    the plan; those before `fixed` do not change.
     """
 
     training: frozenset[NurseDay] = frozenset()
     free: frozenset[NurseDay] = frozenset()
     nights: frozenset[str] = frozenset()
     fixed: int = 0
+    kept: frozenset[str] = frozenset()
+
+    @property
+    def asks(self) -> bool:
+        """Whether there is something to keep."""
+        return bool(self.training or self.free or self.kept)
 
     def of(self, nurse: str) -> "DaysAway":
         """Those of one nurse."""
@@ -34,6 +42,35 @@ class LongRow(NamedTuple):
     days: list[int]
     number: int
     most: int
+
+
+class LongRun(NamedTuple):
+    """Days in a row with a shift type, more than its maximum that holds. `number` is with the days
+    before Monday."""
+
+    nurse: str
+    shift: str
+    days: list[int]
+    number: int
+    most: int
+
+
+def long_runs(
+    scenario: Scenario, history: History, away: DaysAway, works: Mapping[NurseDay, str]
+) -> Iterator[LongRun]:
+    """The runs of shift types with a maximum that holds that are too long, if nurses have these
+    shift types."""
+    for nurse, shift in dict.fromkeys((place[0], shift) for place, shift in sorted(works.items())):
+        if shift not in away.kept:
+            continue
+        most = scenario.shift_types[shift].consecutive.maximum
+        past = history.nurses[nurse]
+        before = past.consecutive_shifts if past.last_shift == shift else 0
+        mine = {day for (who, day), its in works.items() if (who, its) == (nurse, shift)}
+        for days in in_a_row(mine):
+            number = len(days) + (before if days[0] == 0 else 0)
+            if number > most:
+                yield LongRun(nurse, shift, days, number, most)
 
 
 def long_rows(
@@ -62,12 +99,16 @@ def nights_before(away: DaysAway, works: Mapping[NurseDay, str]) -> list[NurseDa
 def excess(
     scenario: Scenario, history: History, away: DaysAway, works: Mapping[NurseDay, str]
 ) -> int:
-    """How many days of too long rows, and nights before training or leave, could be otherwise, if
-    nurses have these shift types."""
+    """How many days of too long rows and runs, and nights before training or leave, could be
+    otherwise, if nurses have these shift types."""
     rows = long_rows(scenario, history, away, works)
     above = sum(
         row.number - row.most
         for row in rows
         if any((row.nurse, day) in works for day in row.days if day >= away.fixed)
+    )
+    above += sum(
+        sum(day >= away.fixed for day in run.days[-(run.number - run.most) :])
+        for run in long_runs(scenario, history, away, works)
     )
     return above + sum(day > away.fixed for _, day in nights_before(away, works))

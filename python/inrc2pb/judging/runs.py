@@ -35,9 +35,10 @@ ANY_CHOICE = 255
 
 class Beside(NamedTuple):
     """A nurse's days away that concern the days beside them: those of training, which is work in a
-    row, and those before which she should have none of these shift types. Each day that is
-    otherwise costs so much, in points; days before `fixed` do not change. A row that differs from
-    the older one costs `call` points.
+    row, and those before which she should have none of these shift types. Of the shift types of
+    `kept` she should have no more days in a row than their maximum. Each day that is otherwise
+    costs so much, in points; days before `fixed` do not change. A row that differs from the older
+    one costs `call` points.
     """
 
     training: frozenset[int] = frozenset()
@@ -47,6 +48,7 @@ class Beside(NamedTuple):
     fixed: int = 0
     older: bytes = b""
     call: int = 0
+    kept: frozenset[str] = frozenset()
 
 
 Step = tuple[int, RunState]
@@ -94,6 +96,7 @@ class Runs:
         self.shifts = [Limits(0, 0), *(kind.consecutive for kind in types)]
         self.numbers = {kind.name: number for number, kind in enumerate(types, 1)}
         self._nights = {self.numbers[name] for name in beside.nights}
+        self._kept = {self.numbers[name] for name in beside.kept}
         self.forbidden = successions(types)
 
     def before(self, past: NurseHistory) -> RunState:
@@ -157,7 +160,9 @@ class Runs:
                 length, cost = (
                     (now.shift_run + 1, works) if choice == now.choice else (1, works + closed)
                 )
-                cost += self._shift_run if length > limits.maximum else 0
+                if length > limits.maximum:
+                    is_kept = choice in self._kept and day >= self._beside.fixed
+                    cost += self._shift_run + (self._beside.cost if is_kept else 0)
                 steps.append((cost, RunState(choice, shortened(length, limits, left), run, 0)))
         return (
             [self._with_days_away(day, now, step) for step in steps]

@@ -9,11 +9,11 @@ from typing import Iterable, Iterator, Mapping, NamedTuple, Sequence
 
 from ..judging.absences import absences_of, not_granted, wishes_of_weeks, working_while_away
 from ..judging.breaches import breaches
-from ..judging.days_away import DaysAway, long_rows, nights_before
+from ..judging.days_away import DaysAway, long_rows, long_runs, nights_before
 from ..judging.limits import exceeded
 from ..judging.rules import SATURDAY, Charge
 from ..shown.totals import Sums, sums_of
-from ..week.facts import SHIFTS, WORK_DAYS, Charged
+from ..week.facts import SHIFT_RUNS, SHIFTS, WORK_DAYS, Charged
 from ..week.records import WEEK_DAYS, Cell, NurseDay, Request
 from .ward import PROMISED, WardPlan
 
@@ -53,7 +53,7 @@ class TooMany(NamedTuple):
 class Beside(NamedTuple):
     """What is wrong beside days away of a nurse: too many days in a row with work and training, of
     which the contract has `most` with work, or a shift of the night before a day away with this
-    word."""
+    word. Or a shift on more days in a row than the `most` that holds."""
 
     nurse: str
     days: tuple[int, int]
@@ -209,6 +209,13 @@ def _exceeded(plan: WardPlan) -> dict[_Exceeded, int]:
             if row.nurse in kept and not row.shift
         }
     )
+    exceeded_by.update(
+        {
+            (row.nurse, SHIFT_RUNS, row.days[0]): row.number - row.most
+            for row in rows
+            if row.shift and not row.word
+        }
+    )
     return exceeded_by
 
 
@@ -225,6 +232,10 @@ def beside_of(plan: WardPlan, away: DaysAway, shifts: Mapping[NurseDay, str]) ->
     odd = [
         Beside(row.nurse, (first + row.days[0], first + row.days[-1]), row.number, row.most)
         for row in rows
+    ]
+    odd += [
+        Beside(run.nurse, (first + run.days[0], first + run.days[-1]), *run[3:], run.shift)
+        for run in long_runs(plan.scenario, plan.past, away, shifts)
     ]
     known = {
         **{

@@ -202,7 +202,12 @@ def bound_text(known: KnownBound | None, missing: int = 0) -> str:
     least = known.bound.points
     if known.beside is not None and known.beside > least:
         least = known.beside
-        plans = "plan with training as work in a row, and no night shift before it or leave,"
+        plans = (
+            "plan with training as work in a row, no night shift before it or leave, and no more"
+            " days in a row on a shift type than a maximum with !,"
+            if known.has_runs
+            else "plan with training as work in a row, and no night shift before it or leave,"
+        )
         proof = f"not proved{still_open}"
         said += f" {_least_text(known.penalty, least, plans, proof, is_first=False)}"
     return f"{said} More seconds may help." if known.penalty > least else said

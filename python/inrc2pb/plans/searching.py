@@ -68,6 +68,8 @@ class KnownBound(NamedTuple):
     bound: Bound
     # The least that one can cost that also keeps the days beside days away, if that is known.
     beside: int | None = None
+    # Whether these days are also those of shift types with a maximum in a row that holds.
+    has_runs: bool = False
 
     @property
     def is_proved(self) -> bool:
@@ -117,6 +119,8 @@ def search_plan(old: WardPlan, asked: Asked, progress: Progress) -> Found:
     labelled = with_old_skills(old.scenario, cells, [*old.cells, *old.held.values()])
     # The search may have counted points that a plan has not.
     bound = None if asked.few_changes or asked.agreed is Keep.MOST else known_bound(search)
+    if bound:
+        bound = bound._replace(has_runs=bool(beside.kept))
     return Found(old.with_cells(labelled), bound, clock.stopped)
 
 

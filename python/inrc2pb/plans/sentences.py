@@ -157,6 +157,9 @@ def beside_text(days: PlanDays, beside: Beside) -> str:
             f" {days.span(beside.days)}"
         )
         return f"{nurse} has {row}, and her contract at most {beside.most} with work"
+    if not beside.word:
+        run = f"{plural(beside.number, 'day')} in a row on {readable(beside.shift)}"
+        return f"{nurse} has {run}, {days.span(beside.days)}, of at most {beside.most}"
     night = days.text(before) if day else "the Sunday before"
     return (
         f"{nurse} works {readable(beside.shift)} on {night}, and has {beside.word} on"

@@ -148,7 +148,7 @@ class WardPlan:
             )
             for words in (_TRAINING, _FREE)
         )
-        return DaysAway(training, free, self.ward.nights)
+        return DaysAway(training, free, self.ward.nights, kept=self.ward.kept_runs)
 
     @cached_property
     def cells(self) -> tuple[Cell, ...]:

@@ -164,7 +164,7 @@ class Plan:
     @property
     def asks(self) -> bool:
         """Whether there are absences or limits to keep."""
-        return bool(self.away or self.limits)
+        return bool(self.away or self.limits or self.beside.kept)
 
     @property
     def adds(self) -> bool:
@@ -174,7 +174,7 @@ class Plan:
     @property
     def keeps_more(self) -> bool:
         """Whether there is something to keep beside absences."""
-        return bool(self.limits or self.beside.training or self.beside.free)
+        return bool(self.limits or self.beside.asks)
 
     def kept(self, keeping: Keeping) -> "Plan":
         """The same plan, with other costs of what is not kept."""
@@ -202,7 +202,8 @@ class Plan:
         )
         older = self.calls.older.get(nurse, b"")
         found = Beside(older=older, call=self.calls.points) if self.charging and older else Beside()
-        if not (self.charging and self.keeping.limit and (training or free)):
+        kept = self.beside.kept
+        if not (self.charging and self.keeping.limit and (training or free or kept)):
             return found
         return found._replace(
             training=training,
@@ -210,6 +211,7 @@ class Plan:
             nights=self.beside.nights,
             cost=self.keeping.limit,
             fixed=self.beside.fixed,
+            kept=kept,
         )
 
     def facts(self) -> Tuple[Claim, ...]:

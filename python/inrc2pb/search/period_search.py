@@ -90,7 +90,7 @@ class PeriodSearch:
     @property
     def _beside_days_away(self) -> bool:
         """Whether plans also keep days beside days away, of which `inrc2pb` knows nothing."""
-        return bool(self._weeks.beside.training or self._weeks.beside.free)
+        return self._weeks.beside.asks
 
     def interrupt(self) -> None:
         """Ends the search now: the best plan was kept. If a proof of its bound runs already, it is

@@ -133,7 +133,7 @@ class SheetCell(NamedTuple):
         if self.text.endswith("%"):
             return "write the number itself, not a part of another one"
         if self.text.endswith(KEPT):
-            return f"the sign {KEPT} is for shifts max, work max and weekends"
+            return f"the sign {KEPT} is for shifts max, work max, weekends and max in a row"
         if not pair and re.fullmatch(r"[0-9]+[.,][0-9]+", self.text):
             return "shifts are counted, not hours"
         number = f"write {about(self.text) or 'a number such as 2'}"

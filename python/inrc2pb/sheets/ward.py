@@ -89,6 +89,8 @@ class Ward:
     book: Book
     # The shifts that nurses may not have at the end, since the next period hangs on the wall.
     border: Tuple[Claim, ...] = ()
+    # The shift types of which nobody has more days in a row than their maximum.
+    kept_runs: FrozenSet[str] = frozenset()
     # The shifts that are left open, without which the minimum numbers of files are.
     opened: Tuple[OpenShift, ...] = ()
 
@@ -248,6 +250,7 @@ def ward_of(
         week_rows=week_rows(written, days),
         was=tables.was,
         book=book,
+        kept_runs=tables.kept_runs,
         opened=tuple(opened),
     )
     odd, reach = _odd_weeks(ward)

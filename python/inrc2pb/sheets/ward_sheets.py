@@ -1,7 +1,7 @@
 """The ward and its first history, from the sheets shifts, contracts and nurses of a spreadsheet."""
 
 import re
-from typing import Collection, Dict, List, NamedTuple, Optional, Sequence, Set, Tuple
+from typing import Collection, Dict, FrozenSet, List, NamedTuple, Optional, Sequence, Set, Tuple
 
 from ..week.dates import Times, times_of
 from ..week.facts import SHIFTS, WEEKENDS, WORK_DAYS
@@ -42,6 +42,7 @@ HEADS = {
 # Words with a meaning of their own in cells and files, so no shift type has such a name.
 OWN_WORDS = ("none", "any", "off", "wish", "away", "ill", "leave", "unpaid", "training")
 # The maxima of a contract that may be never exceeded, by their columns.
+_IN_A_ROW = "max in a row"
 _KEPT = {"shifts max": SHIFTS, "work max": WORK_DAYS, "weekends": WEEKENDS}
 
 
@@ -59,6 +60,8 @@ class WardTables(NamedTuple):
     unknown: "Unknown"
     # The nurse of each older name, which is in small letters.
     was: Dict[str, str]
+    # The shift types whose maximum of days in a row is never exceeded.
+    kept_runs: FrozenSet[str] = frozenset()
 
 
 class Unknown(NamedTuple):
@@ -139,6 +142,21 @@ def read_ward(book: Book, name: str, weeks: int, faults: Gathering) -> WardTable
         skills=skills.cells,
         unknown=Unknown(of_shifts, of_nurses),
         was=_older_names(_rows(nurse_rows), nurses, faults),
+        kept_runs=_kept_runs(shifts, faults) if shifts else frozenset(),
+    )
+
+
+def _kept_runs(table: Table, faults: Gathering) -> FrozenSet[str]:
+    """The shift types whose maximum of days in a row is never exceeded."""
+    for head, cell in table.kept.items():
+        with faults.step():
+            if head != _IN_A_ROW:
+                cell.fault(f"the sign {KEPT} is for {_IN_A_ROW}: delete it here")
+    return frozenset(
+        row.of("shift").text.replace(" ", "_")
+        for row in table.rows
+        for text in [row.of(_IN_A_ROW).text]
+        if text.endswith(KEPT) or (_IN_A_ROW in table.kept and text)
     )
 
 
@@ -289,12 +307,13 @@ def _contract(row: SheetRow, name: str, faults: Gathering) -> Contract:
 def _maximum(row: SheetRow, head: str) -> int:
     """The maximum in this column; an empty cell sets no limit."""
     cell = row.of(head)
-    if head in _KEPT and re.fullmatch(f"{KEPT} ?[0-9]{{1,4}}", cell.text):
+    may_be_kept = head in (*_KEPT, _IN_A_ROW)
+    if may_be_kept and re.fullmatch(f"{KEPT} ?[0-9]{{1,4}}", cell.text):
         cell.fault(
             f"'{cell.text}' has the sign {KEPT} before the number: write"
             f" {cell.text[1:].strip()}{KEPT}"
         )
-    if head not in _KEPT or not cell.text.endswith(KEPT):
+    if not may_be_kept or not cell.text.endswith(KEPT):
         return cell.number(MAX_NUMBER)
     number = cell._replace(text=cell.text.rstrip(f"{KEPT} "))
     if not number.text:

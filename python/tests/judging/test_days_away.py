@@ -7,7 +7,15 @@ from dataclasses import replace
 
 from ward import HISTORY, SCENARIO, WEEK, files
 
-from inrc2pb.judging.days_away import DaysAway, LongRow, excess, long_rows, nights_before
+from inrc2pb.judging.days_away import (
+    DaysAway,
+    LongRow,
+    LongRun,
+    excess,
+    long_rows,
+    long_runs,
+    nights_before,
+)
 from inrc2pb.judging.runs import ANY_CHOICE
 from inrc2pb.rows.plan import ABSENCES_KEPT, Calls, Plan
 from inrc2pb.rows.pricing import Crews, Pricing
@@ -33,6 +41,13 @@ def away_of(nurse, row, **fields):
         for sign in "TF"
     }
     return DaysAway(days["T"], days["T"] | days["F"], NIGHTS, **fields)
+
+
+def with_most_nights(most):
+    """The ward with this maximum of nights in a row."""
+    night = WARD.shift_types["Night"]
+    night = replace(night, consecutive=night.consecutive._replace(maximum=most))
+    return replace(WARD, shift_types={**WARD.shift_types, "Night": night})
 
 
 class Counting(unittest.TestCase):
@@ -74,6 +89,26 @@ class Counting(unittest.TestCase):
                     excess(WARD, PAST, away_of("Grace", row, fixed=fixed), shifts("Grace", row)),
                     above,
                 )
+
+    def test_runs_of_a_shift_type_with_a_maximum_that_holds(self):
+        # At most three nights in a row; Dilek has had two until Sunday, and Grace was off.
+        ward = with_most_nights(3)
+        for nurse, row, fixed, days, number, above in (
+            ("Grace", "NNNN...", 0, range(4), 4, 1),
+            ("Grace", "NNN.NNN", 0, None, 0, 0),
+            ("Grace", ".NNNNND", 0, range(1, 6), 5, 2),
+            ("Grace", ".NNNNND", 5, range(1, 6), 5, 1),
+            ("Grace", ".NNNNND", 6, range(1, 6), 5, 0),
+            ("Dilek", "NN.....", 0, range(2), 4, 1),
+            ("Dilek", ".NNN...", 0, None, 0, 0),
+            ("Grace", "DDDDD..", 0, None, 0, 0),
+        ):
+            with self.subTest(nurse=nurse, row=row, fixed=fixed):
+                away = DaysAway(fixed=fixed, kept=NIGHTS)
+                works = shifts(nurse, row)
+                found = list(long_runs(ward, PAST, away, works))
+                wanted = [LongRun(nurse, "Night", list(days), number, 3)] if days else []
+                self.assertEqual((found, excess(ward, PAST, away, works)), (wanted, above))
 
     def test_night_shifts_by_their_times(self):
         for times, is_night in (
@@ -121,6 +156,30 @@ class Rows(unittest.TestCase):
                     (None, False) if breaks else (cost, True),
                     (nurse, signs, away.fixed, list(row)),
                 )
+        self.assertGreater(min(seen.values()), 50)
+
+    def test_rows_cost_more_if_and_only_if_they_have_too_many_nights_in_a_row(self):
+        chance = random.Random(3)
+        ward = with_most_nights(3)
+        plain = Plan.of(ward, PAST, [DATA, DATA])
+        seen = {False: 0, True: 0}
+        for fixed in (0, 4):
+            away = DaysAway(fixed=fixed, kept=NIGHTS)
+            plan = replace(plain, beside=away)
+            prices = [
+                Pricing(one, Crews(plan), lambda: None)
+                for one in (plain, plan, plan.kept(ABSENCES_KEPT))
+            ]
+            for _ in range(150):
+                nurse = chance.choice(["Grace", "Amara", "Dilek", "Ewa"])
+                row = bytes(3 * (chance.random() < 0.7) for _ in range(14))
+                number = list(WARD.nurses).index(nurse)
+                cost, strict, less_strict = (pricing.cost(number, row) for pricing in prices)
+                works = {(nurse, day): "Night" for day, choice in enumerate(row) if choice}
+                above = excess(ward, PAST, away, works)
+                seen[above > 0] += 1
+                more = above * ABSENCES_KEPT.limit
+                self.assertEqual((strict, less_strict), (None if above else cost, cost + more))
         self.assertGreater(min(seen.values()), 50)
 
     def test_a_row_that_differs_from_an_older_one_costs_a_call(self):

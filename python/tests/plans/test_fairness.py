@@ -11,7 +11,7 @@ from ward import HAS_CBC
 
 from inrc2pb.plans import exchanges, planning
 from inrc2pb.plans.exchanges import more_even
-from inrc2pb.plans.facts import beside_days_away, unkept
+from inrc2pb.plans.facts import beside_days_away, newly_exceeded, unkept
 from inrc2pb.plans.fairness import (
     Evenness,
     Share,
@@ -23,7 +23,7 @@ from inrc2pb.plans.fairness import (
 )
 from inrc2pb.plans.searching import Asked
 from inrc2pb.plans.searching import Found
-from inrc2pb.plans.sentences import evenness_lines
+from inrc2pb.plans.sentences import beside_lines, evenness_lines
 from inrc2pb.plans.state import SetDay
 from inrc2pb.plans.store import penalties
 from inrc2pb.week.records import Cell
@@ -75,6 +75,33 @@ class Shares(KeptTest):
             "nights of each nurse who may work them, by contract: Full 0 to 6",
             "weekends of each nurse who may work them, by contract: Full 0 to 2, Half 0 to 2",
         ])  # fmt: skip
+
+
+class NightsInARow(KeptTest):
+    """Chen has Night from Friday to Sunday in each week of the stored roster."""
+
+    def test_a_maximum_that_holds_is_said_and_asked_for(self):
+        self.rows["shifts"][3][2] = "3!"
+        self.write()
+        before = self.read()
+        self.assertEqual(beside_lines(before), [])
+        longer = before.with_cells((*before.cells, Cell("Chen", 7, "Night", "Nurse")))
+        self.assertEqual(
+            beside_lines(longer),
+            ["Chen has 4 days in a row on Night, Fri 4 Dec to Mon 7 Dec, of at most 3"],
+        )
+        self.assertEqual(
+            (newly_exceeded(before, longer), newly_exceeded(longer, before)), (True, False)
+        )
+        self.assertIn("Night: never more than 3 days in a row.", self.does("check"))
+
+    def test_a_swap_that_exceeds_it_is_not_possible(self):
+        self.rows["shifts"][3][2] = "3!"
+        self.write()
+        said = self.runs("set", "Chen", "Mon", "2", "Night", "--time", "0")[1]
+        self.assertIn(
+            "Chen has 4 days in a row on Night, Fri 4 Dec to Mon 7 Dec, of at most 3", said
+        )
 
 
 class Exchanges(KeptTest):

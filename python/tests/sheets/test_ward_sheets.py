@@ -767,7 +767,7 @@ class Contents(unittest.TestCase):
                 "8!",
                 (
                     "row 2, column B: '8!' is no whole number: the sign ! is for shifts max, work"
-                    " max and weekends"
+                    " max, weekends and max in a row"
                 ),
             ),
             (
@@ -780,6 +780,27 @@ class Contents(unittest.TestCase):
             with self.assertRaises(FileFault) as caught:
                 texts(changed("contracts", row, column, text))
             self.assertEqual(caught.exception.message, f"sheet contracts, {said}")
+
+    def test_a_maximum_of_days_in_a_row_on_a_shift_type_that_holds(self):
+        self.assertEqual(made(SHEETS).kept_runs, set())
+        ward = made(changed("shifts", 4, 2, "3!"))
+        self.assertEqual(ward.kept_runs, {"Night"})
+        self.assertEqual(ward.scenario.shift_types["Night"].consecutive, (2, 3))
+        self.assertEqual(
+            made(changed("shifts", 1, 2, "max in a row!")).kept_runs, {"Day", "Late", "Night"}
+        )
+        for row, column, text, said in (
+            (4, 2, "!3", "row 4, column C: '!3' has the sign ! before the number: write 3!"),
+            (
+                1,
+                1,
+                "min in a row!",
+                "row 1, column B: the sign ! is for max in a row: delete it here",
+            ),
+        ):
+            with self.assertRaises(FileFault) as caught:
+                texts(changed("shifts", row, column, text))
+            self.assertEqual(caught.exception.message, f"sheet shifts, {said}")
 
     def test_reasons_of_absences(self):
         self.assertEqual(

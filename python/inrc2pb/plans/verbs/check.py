@@ -15,7 +15,7 @@ from ...shown.ward_sentences import (
 from ...shown.week_sentences import DescribedWeek, weeks_sentences
 from ...shown.why import plain_breach_lines
 from ...week.records import WEEK_DAYS, in_week
-from ...week.words import joined, readable
+from ...week.words import joined, plural, readable
 from ..left_open import all_open_lines
 from ..odd_sheet import warning_lines
 from ..sentences import beside_lines, exceeded_lines, working_lines
@@ -107,6 +107,7 @@ def _ward_lines(plan: WardPlan) -> list[str]:
         "",
         *scenario_sentences(plan.scenario),
         _nights_sentence(plan),
+        *_kept_runs_sentences(plan),
         *limits,
         "",
         *past,
@@ -125,6 +126,14 @@ def _nights_sentence(plan: WardPlan) -> str:
     return (
         f"No shift is a night, since {why}: write times of all shifts, or such a name, if one is."
     )
+
+
+def _kept_runs_sentences(plan: WardPlan) -> Iterator[str]:
+    """The maxima of days in a row on a shift type that hold."""
+    for name, shift in plan.scenario.shift_types.items():
+        if name in plan.ward.kept_runs:
+            most = plural(shift.consecutive.maximum, "day")
+            yield f"{readable(name)}: never more than {most} in a row."
 
 
 def _calendar_name(plan: WardPlan, number: int) -> str:
