@@ -1,5 +1,6 @@
 """What folders of plans say of shifts: the sums of a period, and the days that hung on the wall."""
 
+from dataclasses import replace
 from pathlib import Path
 from typing import Iterable, Sequence
 
@@ -15,20 +16,24 @@ from .ward import WardPlan
 
 
 def sums_of_period(period: Period, plan: WardPlan) -> dict[str, Sums]:
-    """What each nurse had in a period; the times of shift types, and which are nights, are those of
-    another plan."""
+    """What each nurse had in a period; names, the times of shift types, and which are nights, are
+    those of another plan."""
     try:
         past = past_plan(period, plan.ward)
     except (FileFault, OSError):
         return {}
-    wishes = wishes_of_weeks(enumerate(past.ward.weeks))
+    names = plan.ward.names_since(past.state.was)
+    wishes = [
+        replace(wish, nurse=names.nurse(wish.nurse), shift=wish.shift and names.shift(wish.shift))
+        for wish in wishes_of_weeks(enumerate(past.ward.weeks))
+    ]
     return sums_of(
-        past.scenario.nurses,
-        past.state.cells,
+        list(map(names.nurse, past.scenario.nurses)),
+        past.state.renamed(names).cells,
         wishes,
         plan.ward.nights,
         plan.ward.times,
-        past.ward.credit,
+        {names.nurse(nurse): shifts for nurse, shifts in past.ward.credit.items()},
     )
 
 

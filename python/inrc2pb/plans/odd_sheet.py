@@ -32,9 +32,19 @@ def warning_lines(
 
 
 def _stranger_lines(strangers: Strangers) -> Iterator[str]:
-    """That nurses have come and others have gone, so one of them may only have another name."""
-    come, gone = strangers
-    if come and gone:
+    """Who has come and who has gone, at the begin of a period, and that one of them may only have
+    another name."""
+    come, gone, begins = strangers
+    if come and begins:
+        yield f"sheet nurses: new since the last plan: {quoted(come)}"
+    if gone and begins:
+        yield f"sheet nurses: in the ward no more: {quoted(gone)}"
+    for now, before in strangers.alike:
+        yield (
+            f"sheet nurses: is {now} the {before} of the last plan? If she is, write {before} into"
+            " the column was of her row, so that her past is known"
+        )
+    if come and gone and not strangers.alike:
         yield (
             f"sheet nurses: the last plan does not have {quoted(come)}, and here is no row for"
             f" {quoted(gone)}: if one of them has another name now, write the old one into the"

@@ -158,7 +158,7 @@ def past_plan(period: Period, now: Ward) -> WardPlan:
         times=now.times,
         holidays=frozenset(),
         week_rows=(),
-        was={},
+        was=state.was,
         book=now.book,
         opened=state.opened,
     )

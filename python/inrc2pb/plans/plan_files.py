@@ -7,6 +7,7 @@ import json
 from pathlib import Path
 from typing import Any, Callable, Dict, List, Optional, Sequence, Tuple
 
+from ..sheets.older_names import Renamed
 from ..sheets.open_shifts import OpenShift
 from ..sheets.written_days import DayWord
 from ..week.dates import PlanDays
@@ -35,6 +36,7 @@ _SET = "set days"
 _TYPED = "typed"
 _PERIOD = "period"
 _OPEN = "open shifts"
+_WAS = "was"
 # The most periods of a folder.
 _MOST_PERIODS = 9999
 
@@ -62,6 +64,7 @@ def record_text(record: Record) -> str:
         _TYPED: record.typed,
         **({} if record.period is None else {_PERIOD: record.period}),
         **({_OPEN: [list(one) for one in record.opened]} if record.opened else {}),
+        **({_WAS: [list(one) for one in record.was]} if record.was else {}),
     }
     lines = [
         f"  {json.dumps(name)}: {json.dumps(value, ensure_ascii=False)}"
@@ -128,10 +131,12 @@ def _record_of(values: Any) -> Record:
         _TYPED,
         _PERIOD,
         _OPEN,
+        _WAS,
     )
-    if not isinstance(values, dict) or {_SET, _TYPED, _PERIOD, _OPEN, *values} != set(names):
+    newer = {_SET, _TYPED, _PERIOD, _OPEN, _WAS}
+    if not isinstance(values, dict) or {*newer, *values} != set(names):
         raise _Changed(f"it has not the names {', '.join(names)}")
-    values = {_SET: [], _TYPED: "", _OPEN: [], **values}
+    values = {_SET: [], _TYPED: "", _OPEN: [], _WAS: [], **values}
     monday = values["monday"]
     weeks = _taken(values, "weeks", _is_number_to(MAX_WEEKS))
     days = PlanDays(None if monday is None else _time(values, "monday", "%Y-%m-%d").date(), weeks)
@@ -157,6 +162,7 @@ def _record_of(values: Any) -> Record:
             OpenShift(*row)
             for row in _rows(values, _OPEN, [is_day, _is_text, _is_text, _is_number_to(MAX_NUMBER)])
         ),
+        was=tuple(Renamed(*row) for row in _rows(values, _WAS, [_is_text] * 3)),
     )
 
 
@@ -226,6 +232,7 @@ def read_state(folder: Path) -> State:
         set_days=_with_shifts(record.set_days, cells),
         period=record.period or 0,
         opened=record.opened,
+        was=record.was,
     )
 
 

@@ -6,6 +6,8 @@ import shlex
 from dataclasses import replace
 from typing import Dict, Iterator, List, NamedTuple, Optional, Sequence, Tuple
 
+from ..sheets.older_names import Names
+from ..sheets.ward import Ward
 from ..sheets.week_rows import WeekRow, unchanged_rows
 from ..week.dates import PlanDays
 from ..week.faults import FileFault, FileFaults, Misuse
@@ -24,7 +26,7 @@ from .periods import (
 )
 from .fits import check_sheet
 from .plan_files import read_state
-from .state import State
+from .state import State, renamed
 from .ward import WardPlan, continued, first_plan
 from .ward_folder import WardFolder
 
@@ -39,6 +41,18 @@ class Strangers(NamedTuple):
     come: Tuple[str, ...] = ()
     # Those whom the spreadsheet does not have.
     gone: Tuple[str, ...] = ()
+    # Whether a period begins, which has no plan yet.
+    begins: bool = False
+
+    @property
+    def alike(self) -> List[Tuple[str, str]]:
+        """Those who have come and gone with a part of their names in common."""
+        return [
+            (now, before)
+            for now in self.come
+            for before in self.gone
+            if {*now.casefold().split("_")} & {*before.casefold().split("_")}
+        ]
 
 
 class PlanReader:
@@ -90,7 +104,9 @@ class PlanReader:
         days = state.days if known else _first_weeks(self.folder.days(), state.days, weeks)
         ward = self.folder.ward(state.start.scenario, state.absences, days, state.opened)
         after = periods.get(number + 1)
-        border = border_of(ward, state_of(after).renamed(ward.name_now)) if after else ()
+        border = border_of(ward, self._named(state_of(after), ward)) if after else ()
+        if before and past:
+            past = renamed(past, ward.names_since(state_of(before).was))
         return continued(ward.with_border(border), state, past)
 
     def before_and_after(
@@ -110,9 +126,13 @@ class PlanReader:
         number = new.state.period + 1
         return self.before_and_after(new.state, number) if number in numbers else (None, None)
 
-    def name_now(self, nurse: str) -> str:
-        """The name that a nurse of an older plan has in the spreadsheet."""
-        return self.folder.ward().name_now(nurse)
+    def _named(self, state: State, ward: Ward) -> State:
+        """A state with the names that nurses and shift types have in a ward."""
+        return state.renamed(ward.names_since(state.was))
+
+    def names_since(self, state: State) -> Names:
+        """The names in the spreadsheet for those of an older plan."""
+        return self.folder.ward().names_since(state.was)
 
     def past_plans(self) -> Iterator[WardPlan]:
         """The plans of the periods that are over, the last one first."""
@@ -175,11 +195,12 @@ class PlanReader:
         periods = self.periods()
         if not periods:
             return Strangers()
-        before = state_of(periods[-1]).renamed(plan.ward.name_now).start.nurses
+        before = self._named(state_of(periods[-1]), plan.ward).start.nurses
         now = plan.scenario.nurses
         return Strangers(
             tuple(nurse for nurse in now if nurse not in before),
             tuple(nurse for nurse in before if nurse not in now),
+            begins=not plan.is_planned,
         )
 
 

@@ -5,6 +5,7 @@ import datetime
 from dataclasses import dataclass, replace
 from typing import Callable, Dict, Iterable, NamedTuple, Optional, Tuple
 
+from ..sheets.older_names import Names, Renamed
 from ..sheets.open_shifts import OpenShift
 from ..sheets.written_days import DayWord
 from ..week.dates import PlanDays
@@ -53,8 +54,9 @@ class Record(NamedTuple):
     set_days: Tuple[SetDay, ...] = ()
     typed: str = ""
     period: Optional[int] = None
-    # The shifts that are left open.
+    # The shifts that are left open, and the older names that are new ones in the plan.
     opened: Tuple[OpenShift, ...] = ()
+    was: Tuple[Renamed, ...] = ()
 
     @property
     def made(self) -> str:
@@ -79,6 +81,7 @@ class State:
     set_days: Tuple[SetDay, ...] = ()
     period: int = 0
     opened: Tuple[OpenShift, ...] = ()
+    was: Tuple[Renamed, ...] = ()
     # Whether the period before it is not over, so it begins as that one is planned.
     is_as_planned: bool = False
 
@@ -127,17 +130,27 @@ class State:
             typed=typed,
             period=self.period,
             opened=self.opened,
+            was=self.was,
         )
 
-    def renamed(self, name_now: Callable[[str], str]) -> "State":
-        """The same with the names that nurses have now."""
+    def renamed(self, names: Names) -> "State":
+        """The same with the names that nurses and shift types have now."""
         return replace(
             self,
-            start=renamed(self.start, name_now),
-            cells=tuple(row._replace(nurse=name_now(row.nurse)) for row in self.cells),
-            absences=tuple(row._replace(nurse=name_now(row.nurse)) for row in self.absences),
-            agreed=tuple(row._replace(nurse=name_now(row.nurse)) for row in self.agreed),
-            set_days=tuple(row._replace(nurse=name_now(row.nurse)) for row in self.set_days),
+            start=renamed(self.start, names),
+            cells=tuple(
+                row._replace(nurse=names.nurse(row.nurse), shift=names.shift(row.shift))
+                for row in self.cells
+            ),
+            absences=tuple(row._replace(nurse=names.nurse(row.nurse)) for row in self.absences),
+            agreed=tuple(row._replace(nurse=names.nurse(row.nurse)) for row in self.agreed),
+            set_days=tuple(
+                row._replace(
+                    nurse=names.nurse(row.nurse), shift=row.shift and names.shift(row.shift)
+                )
+                for row in self.set_days
+            ),
+            opened=tuple(row._replace(shift=names.shift(row.shift)) for row in self.opened),
         )
 
     def agreeing(self, fits: Callable[[NurseDay], bool]) -> "State":
@@ -153,10 +166,14 @@ class State:
         )
 
 
-def renamed(history: History, name_now: Callable[[str], str]) -> History:
-    """The history with the names that nurses have now."""
-    names = {nurse: name_now(nurse) for nurse in history.nurses}
-    nurses = {
-        names[nurse]: replace(row, nurse=names[nurse]) for nurse, row in history.nurses.items()
-    }
-    return replace(history, nurses=nurses)
+def renamed(history: History, names: Names) -> History:
+    """The history with the names that nurses and shift types have now."""
+    rows = [
+        replace(
+            row,
+            nurse=names.nurse(row.nurse),
+            last_shift=row.last_shift and names.shift(row.last_shift),
+        )
+        for row in history.nurses.values()
+    ]
+    return replace(history, nurses={row.nurse: row for row in rows})

@@ -140,7 +140,7 @@ class PlanStore(PlanReader):
 
     def _worked_table(self, plan: WardPlan) -> Tuple[Path, ...]:
         """Writes the table of what was worked, if its verb can have changed that."""
-        text = worked_text(self.folder.all_plans(), plan.ward.name_now)
+        text = worked_text(self.folder.all_plans(), plan.ward)
         return pages.write_table(self.folder.top, text)
 
     def pages_undone(self, undone: Optional[Record]) -> Pages:
@@ -173,8 +173,7 @@ class PlanStore(PlanReader):
         for period in self.periods():
             if period.number < plan.state.period:
                 for nurse, of_period in sums_of_period(period, plan).items():
-                    now = plan.ward.name_now(nurse)
-                    sums[now] = sums.get(now, Sums()).plus(of_period)
+                    sums[nurse] = sums.get(nurse, Sums()).plus(of_period)
         return sums
 
     def _before(self, days: PlanDays) -> Dict[str, Set[int]]:

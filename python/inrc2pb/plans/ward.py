@@ -35,7 +35,7 @@ from ..week.records import (
 from ..week.words import OFF, readable
 from .fits import check_days, check_names
 from .limits import limits_for_leavers, limits_of
-from .state import State, renamed
+from .state import State
 
 # The words for a day on which a nurse never works, and for a day off that the spreadsheet promises.
 ALWAYS_OFF = OFF
@@ -272,17 +272,18 @@ def _start(ward: Ward, past: History | None) -> History:
 
 
 def continued(ward: Ward, state: State, past: History | None = None) -> WardPlan:
-    """The plan of a folder, with what its spreadsheet says now; it begins with this history, if the
-    period before it is known. Raises Misuse if the spreadsheet has another period, or lacks a name
-    of a week that is over; planned shifts whose names it lacks are left out."""
+    """The plan of a folder, with what its spreadsheet says now; it begins with this history, which
+    has the names of now, if the period before it is known. Raises Misuse if the spreadsheet has
+    another period, or lacks a name of a week that is over; planned shifts whose names it lacks are
+    left out."""
     ward = ward.with_open(state.opened)
-    named = state.renamed(ward.name_now)
+    named = replace(state.renamed(ward.names_since(state.was)), was=tuple(ward.was))
     absences = _with_lost_shifts(ward, named)
     if absences != state.absences:
         return continued(ward.with_absences(absences), replace(named, absences=absences), past)
     check_days(ward.days, named.days)
     check_names(ward, [cell for cell in named.cells if cell.day < named.first])
-    known = renamed(past, ward.name_now).nurses if past else {}
+    known = past.nurses if past else {}
     start = _start(ward, replace(named.start, nurses={**named.start.nurses, **known}))
     _check_last_shifts(ward, start)
     unknown = tuple(cell for cell in named.cells if not ward.knows(cell))

@@ -4,8 +4,9 @@ is over on which she worked, was to work, or was away. It is a copy, which no ve
 import csv
 import io
 from pathlib import Path
-from typing import Callable, Iterator, Sequence
+from typing import Iterator, Sequence
 
+from ..sheets.ward import Ward
 from ..week.facts import read_reasons
 from ..week.faults import FileFault
 from ..week.files import read_scenario
@@ -20,7 +21,7 @@ HEADS = ("nurse", "date", "shift type", "skill", "planned")
 _FORMULA = ("=", "+", "-", "@")
 
 
-def worked_text(folders: Sequence[Path], name_now: Callable[[str], str]) -> str:
+def worked_text(folders: Sequence[Path], ward: Ward) -> str:
     """The table of all periods of these folders that have dates, with the names that nurses have
     now; nothing if no week is over. `planned` is the shift of the last plan before the week was
     over."""
@@ -28,7 +29,7 @@ def worked_text(folders: Sequence[Path], name_now: Callable[[str], str]) -> str:
     rows: list[tuple[str, ...]] = []
     for period in periods_of(folders):
         if period.days.monday is not None:
-            rows += _rows(period, planned, name_now)
+            rows += _rows(period, planned, ward)
     if not rows:
         return ""
     text = io.StringIO()
@@ -46,7 +47,7 @@ def _planned_files(folders: Sequence[Path]) -> dict[tuple[int, int], Path]:
 
 
 def _rows(
-    period: Period, planned: dict[tuple[int, int], Path], name_now: Callable[[str], str]
+    period: Period, planned: dict[tuple[int, int], Path], now: Ward
 ) -> Iterator[tuple[str, ...]]:
     """The rows of a period, but for damaged folders."""
     try:
@@ -58,6 +59,7 @@ def _rows(
     away = {NurseDay(one.nurse, WEEK_DAYS * (one.week - 1) + one.day): words[one] for one in words}
     before = _cells([planned.get((period.number, week)) for week in range(state.open_week)])
     works = {cell.nurse_day: cell for cell in state.cells}
+    names = now.names_since(state.was)
     order = {nurse: number for number, nurse in enumerate(ward.nurses)}
     places = sorted(
         (place for place in {*works, *before, *away} if place.day < state.first),
@@ -67,7 +69,12 @@ def _rows(
         cell = works.get(place)
         shift = cell.shift if cell else away.get(place, "")
         was = before.get(place)
-        texts = [name_now(place.nurse), shift, cell.skill if cell else "", was.shift if was else ""]
+        texts = [
+            names.nurse(place.nurse),
+            shift,
+            cell.skill if cell else "",
+            was.shift if was else "",
+        ]
         nurse, shift, skill, plan = (_safe(readable(text)) for text in texts)
         yield nurse, str(period.days.date(place.day)), shift, skill, plan
 

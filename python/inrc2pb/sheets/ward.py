@@ -4,7 +4,18 @@ import re
 from dataclasses import dataclass, replace
 from functools import cached_property
 from pathlib import Path
-from typing import Dict, FrozenSet, Iterable, Iterator, List, Mapping, Optional, Sequence, Tuple
+from typing import (
+    Collection,
+    Dict,
+    FrozenSet,
+    Iterable,
+    Iterator,
+    List,
+    Mapping,
+    Optional,
+    Sequence,
+    Tuple,
+)
 
 from ..judging.absences import NO_SKILL, TooMany, with_requests
 from ..judging.demand import demand_warnings, supply_warnings
@@ -39,6 +50,7 @@ from .odd_cells import cell_warnings
 from .odd_tables import book_warnings, skill_warnings, ward_warnings
 from .employment import employed, with_changed_contracts
 from .open_shifts import OpenShift, lowered
+from .older_names import Names, Renamed
 from .plan_days import Days, plan_warnings, read_days, week_of_row_warnings
 from .plan_sheets import (
     COUNTED,
@@ -84,8 +96,8 @@ class Ward:
     # needs that have a week.
     holidays: FrozenSet[int]
     week_rows: Sequence[WeekRow]
-    # The nurse of each older name, which is in small letters.
-    was: Mapping[str, str]
+    # The older names of nurses and shift types.
+    was: Sequence[Renamed]
     book: Book
     # The shifts that nurses may not have at the end, since the next period hangs on the wall.
     border: Tuple[Claim, ...] = ()
@@ -183,9 +195,9 @@ class Ward:
                 leaving[nurse] = first
         return leaving
 
-    def name_now(self, nurse: str) -> str:
-        """The name that a nurse has now, by one that she had in an older plan."""
-        return self.was.get(nurse.casefold(), nurse)
+    def names_since(self, known: Collection[Renamed]) -> Names:
+        """The names of now, for a plan that knew these new names already."""
+        return Names(one for one in self.was if one not in known)
 
     def knows(self, cell: Cell) -> bool:
         """Whether the ward has the names of a shift."""

@@ -9,6 +9,7 @@ from ..week.faults import Gathering, Misuse
 from ..week.records import DAYS, Contract, History, Limits, Nurse, NurseHistory, Scenario, ShiftType
 from ..week.slots import MAX_CONTRACTS, MAX_NUMBER, MAX_NURSES, MAX_SHIFTS, MAX_SKILLS
 from ..week.words import readable
+from .older_names import Renamed, older_names
 from .sheet_cells import KEPT, SheetCell, day_meant
 from .sheet_files import Book
 from .sheet_rows import SheetRow
@@ -20,12 +21,15 @@ NIGHT = re.compile("night|nacht|nuit|noche|notte|noite", re.IGNORECASE)
 _YES = ("1", "yes", "x", "true")
 _NO = ("", "0", "no", "-", "false")
 HEADS = {
-    "shifts": (("shift",), ("min in a row", "max in a row", "not followed by", "times", "rest")),
+    "shifts": (
+        ("shift",),
+        ("min in a row", "max in a row", "not followed by", "times", "rest", "was"),
+    ),
     "contracts": (
         ("contract",),
         tuple(
             "shifts min,shifts max,work min,work max,off min,off max,weekends,"
-            "complete weekends".split(",")
+            "complete weekends,was".split(",")
         ),
     ),
     "nurses": (
@@ -58,8 +62,8 @@ class WardTables(NamedTuple):
     kept: Dict[str, Set[str]]
     skills: Dict[str, SheetCell]
     unknown: "Unknown"
-    # The nurse of each older name, which is in small letters.
-    was: Dict[str, str]
+    # The older names of nurses and shift types.
+    was: Sequence[Renamed]
     # The shift types whose maximum of days in a row is never exceeded.
     kept_runs: FrozenSet[str] = frozenset()
 
@@ -141,7 +145,10 @@ def read_ward(book: Book, name: str, weeks: int, faults: Gathering) -> WardTable
         kept=kept,
         skills=skills.cells,
         unknown=Unknown(of_shifts, of_nurses),
-        was=_older_names(_rows(nurse_rows), nurses, faults),
+        was=[
+            *older_names(nurse_rows, "nurse", nurses, faults),
+            *older_names(shifts, "shift", shift_types, faults),
+        ],
         kept_runs=_kept_runs(shifts, faults) if shifts else frozenset(),
     )
 
@@ -158,24 +165,6 @@ def _kept_runs(table: Table, faults: Gathering) -> FrozenSet[str]:
         for text in [row.of(_IN_A_ROW).text]
         if text.endswith(KEPT) or (_IN_A_ROW in table.kept and text)
     )
-
-
-def _older_names(
-    rows: Sequence[SheetRow], nurses: Collection[str], faults: Gathering
-) -> Dict[str, str]:
-    """The nurse of each older name, which is nobody's name now, and only hers."""
-    now = {name.casefold() for name in nurses}
-    older: Dict[str, str] = {}
-    parts = [(part, row.of("nurse").text) for row in rows for part in row.of("was").parts()]
-    for part, nurse in parts:
-        name = part.text.replace(" ", "_").casefold()
-        with faults.step():
-            if name in now:
-                part.fault(f"'{part.text}' has a row: delete one of the two, or empty this cell")
-            if name in older:
-                part.fault(f"'{part.text}' is the older name of two nurses: empty one of the cells")
-        older[name] = nurse.replace(" ", "_")
-    return older
 
 
 def _rows(table: Optional[Table]) -> Sequence[SheetRow]:

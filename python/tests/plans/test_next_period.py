@@ -213,9 +213,8 @@ class NewNames(PeriodTest):
     """Chen, who has Night on Friday, Saturday and Sunday of each week, is Chen Wu from now on."""
 
     SAYS = (
-        "warning: sheet nurses: the last plan does not have Chen Wu, and here is no row for Chen:"
-        " if one of them has another name now, write the old one into the column was, so that her"
-        " past is known\n"
+        "warning: sheet nurses: is Chen Wu the Chen of the last plan? If she is, write Chen into the"
+        " column was of her row, so that her past is known\n"
     )
 
     def rename(self, older=""):
@@ -232,11 +231,13 @@ class NewNames(PeriodTest):
         self.rename()
         printed = run("plan", self.ward, "check")[1]
         self.assertIn(self.SAYS, printed)
+        self.assertIn("warning: sheet nurses: new since the last plan: Chen Wu\n", printed)
+        self.assertIn("warning: sheet nurses: in the ward no more: Chen\n", printed)
         self.assertNotIn("Night on Sunday", printed)
         for older in ("Chen", "chen", "Chen Li, Chen"):
             self.rename(older)
             printed = run("plan", self.ward, "check")[1]
-            self.assertNotIn("another name", printed)
+            self.assertNotIn("last plan", printed)
             self.assertIn("Night on Sunday: Chen Wu for 3 days", printed)
 
     def test_within_a_period(self):
@@ -273,6 +274,76 @@ class NewNames(PeriodTest):
         WardFolder(self.ward).add("leave", plan_texts(plan, plan.state.record("leave", now)), now)
         self.rename("Chen")
         self.assertIn("Chen Wu on Tue 1 Dec", run("plan", self.ward, "check")[1])
+
+    def test_nurses_without_a_part_of_their_names_in_common(self):
+        self.end_period()
+        self.write_next(MONDAY + datetime.timedelta(days=14))
+        self.rename()
+        for row in (*self.rows["nurses"], *self.rows["plan"]):
+            row[0] = "Hana" if row[0] == "Chen Wu" else row[0]
+        self.write()
+        printed = run("plan", self.ward, "check")[1]
+        self.assertIn("the last plan does not have Hana, and here is no row for Chen: if", printed)
+
+    def exchange(self):
+        """Chen has the name of Ewa, and Ewa that of Chen."""
+        other = {"Chen": "Ewa", "Ewa": "Chen"}
+        for row in (*self.rows["nurses"], *self.rows["plan"]):
+            row[0] = other.get(row[0], row[0])
+        for row in self.rows["nurses"]:
+            row[11:] = ["was" if row[0] == "nurse" else other.get(row[0], "")]
+        self.write()
+
+    def test_two_nurses_exchange_their_names_once(self):
+        before = read_state(self.last()).cells
+        self.exchange()
+        other = {"Chen": "Ewa", "Ewa": "Chen"}
+        wanted = {cell._replace(nurse=other.get(cell.nurse, cell.nurse)) for cell in before}
+        for _ in range(2):
+            self.does("page")
+            self.assertEqual(set(read_state(self.last()).cells), wanted)
+            self.assertEqual(set(self.verbs().current().cells), wanted)
+        self.does("over")
+        with open(self.ward / "tables" / "worked.csv", encoding="utf-8") as file:
+            nights = {line.split(",")[0] for line in file if ",2026-12-04,Night" in line}
+        self.assertEqual(nights, {"Ewa"})
+        # Undo brings both pasts back.
+        for _ in range(3):
+            self.does("undo")
+        self.assertEqual(set(self.verbs().current().cells), wanted)
+
+    def test_mistakes_of_older_names(self):
+        for older, says in (
+            ("Grace", "row 4, column L: 'Grace' has a row: delete one of the two"),
+            ("Chen Wu", "row 4, column L: 'Chen Wu' has a row: delete one of the two"),
+            ("Chen, Chen", "row 4, column L: 'Chen' is the older name of two rows"),
+        ):
+            self.rename(older)
+            self.assertIn(says, run("plan", self.ward, "check")[2])
+            self.rows["nurses"][3][0] = self.rows["plan"][3][0] = "Chen"
+
+    def test_a_shift_type_with_another_name(self):
+        self.does("set", "Chen", "Fri", "Night", "--do")
+        self.rows["shifts"][0].append("was")
+        for sheet in ("shifts", "needs", "nurses", "plan"):
+            self.rows[sheet] = [
+                [cell.replace("Night", "Nacht") for cell in row] for row in self.rows[sheet]
+            ]
+        self.rows["shifts"][3].append("Night")
+        self.rows["contracts"][0].append("was")
+        self.write()
+        plan = self.verbs().current()
+        self.assertEqual(plan.unknown, ())
+        self.assertEqual({cell.shift for cell in plan.cells}, {"Day", "Late", "Nacht"})
+        self.assertEqual(plan.state.set_days[0].shift, "Nacht")
+        self.assertEqual(plan.state.start.nurses["Dilek"].last_shift, "Nacht")
+        self.end_period()
+        self.write_next(MONDAY + datetime.timedelta(days=14))
+        self.plan_next(
+            [cell._replace(shift=cell.shift.replace("Night", "Nacht")) for cell in TWO_WEEKS]
+        )
+        self.does("page")
+        self.assertEqual(self.sums("roster.html")["Chen"][5:8], ["20", "173", "12"])
 
     def test_sums_of_all_periods(self):
         self.end_period()

@@ -172,7 +172,8 @@ def _week_over(store: PlanStore, old: WardPlan, corrections: Corrections) -> Wee
 def _of_older_periods(store: PlanStore, event: Event) -> Iterator[Corrected]:
     """The corrections of the last period that is over and has their days."""
     for plan in store.past_plans():
-        names = {store.name_now(nurse): nurse for nurse in plan.scenario.nurses}
+        named = store.names_since(plan.state)
+        names = {named.nurse(nurse): nurse for nurse in plan.scenario.nurses}
         try:
             corrections = corrections_of(plan, event, plan.days.total, names)
         except OtherPlan:
