@@ -91,3 +91,23 @@ def interrupts() -> Iterator[Interrupts]:
         for number, handler in before.items():
             signal.signal(number, handler)
         _installed.remove(taken)
+
+
+@contextlib.contextmanager
+def held() -> Iterator[None]:
+    """Within the block no signal ends the command: one that comes ends it after the block."""
+    if _installed or threading.current_thread() is not threading.main_thread():
+        yield
+        return
+    taken = Interrupts()
+    handlers = {number: signal.getsignal(number) for number in SIGNALS}
+    ending = {number: handler for number, handler in handlers.items() if callable(handler)}
+    try:
+        for number in ending:
+            signal.signal(number, taken.take)
+        yield
+    finally:
+        for number, handler in ending.items():
+            signal.signal(number, handler)
+        if taken.caught:
+            signal.raise_signal(taken.caught[0])

@@ -14,6 +14,8 @@ from dataclasses import dataclass
 from pathlib import Path
 from typing import Callable, NamedTuple, Sequence
 
+from .interrupts import held
+
 # Seconds that a process has to print its answer after it was asked to end.
 GRACE = 2.0
 MAX_OUTPUT = 1 << 28
@@ -184,6 +186,30 @@ class Processes:
         """Ends the processes that run now. Others may start."""
         with self._lock:
             for process in self._running:
+                _signal_group(process, signal.SIGKILL)
+
+
+def run_to_end(
+    words: Sequence[str], given: bytes, seconds: float | None
+) -> "subprocess.CompletedProcess[bytes]":
+    """Runs a command on this standard input, in a session of its own, so that Ctrl-C ends this
+    process and not a command that it has begun. When this function ends, none of its processes
+    runs, also if a signal came while they began. Raises TimeoutExpired after these seconds."""
+    process: "subprocess.Popen[bytes] | None" = None
+    try:
+        with held():
+            process = subprocess.Popen(
+                list(words),
+                stdin=subprocess.PIPE,
+                stdout=subprocess.PIPE,
+                stderr=subprocess.PIPE,
+                start_new_session=True,
+            )
+        output, errors = process.communicate(given, seconds)
+        return subprocess.CompletedProcess(words, process.returncode, output, errors)
+    finally:
+        if process and process.returncode is None:
+            with held(), process:
                 _signal_group(process, signal.SIGKILL)
 
 

@@ -13,7 +13,7 @@ from typing import Callable, Dict, List, Optional, Sequence, Tuple, Union
 
 from ..week.faults import ProgramFault
 from ..week.soft_rules import SOFT_RULES
-from .processes import Processes
+from .processes import Processes, run_to_end
 
 # The exit statuses of `inrc2pb`, which docs/answers.md explains, and the one with which a shell
 # reports that there is no program.
@@ -134,13 +134,7 @@ def _is_inrc2pb(program: str) -> bool:
     """Whether the program prints the version of `inrc2pb`. One that does not run, or that a signal
     ends, is judged when it is used."""
     try:
-        ran = subprocess.run(
-            [program, "--version"],
-            stdin=subprocess.DEVNULL,
-            stdout=subprocess.PIPE,
-            stderr=subprocess.DEVNULL,
-            timeout=LONGEST_RUN,
-        )
+        ran = run_to_end([program, "--version"], b"", LONGEST_RUN)
     except (OSError, subprocess.TimeoutExpired):
         return True
     return ran.returncode < 0 or ran.stdout.startswith(b"inrc2pb ")
@@ -148,21 +142,11 @@ def _is_inrc2pb(program: str) -> bool:
 
 def run_program(*words: str, given: str = "", program: Optional[Path] = None) -> str:
     """Runs `inrc2pb`, or another program, on these words and this standard input, and returns its
-    standard output. Another program has no limit of time, since a proof may take long.
-
-    It runs in a session of its own, so that Ctrl-C ends the command and not a check that it has
-    begun.
-    """
+    standard output. Another program has no limit of time, since a proof may take long."""
     name = str(program or find_program())
+    data = given.encode("utf-8", errors="surrogateescape")
     try:
-        ran = subprocess.run(
-            [name, *words],
-            input=given.encode("utf-8", errors="surrogateescape"),
-            stdout=subprocess.PIPE,
-            stderr=subprocess.PIPE,
-            start_new_session=True,
-            timeout=None if program else LONGEST_RUN,
-        )
+        ran = run_to_end([name, *words], data, None if program else LONGEST_RUN)
     except subprocess.TimeoutExpired as fault:
         raise _does_not_end(words) from fault
     except OSError as fault:

@@ -3,6 +3,7 @@
 import errno
 import os
 import shutil
+import signal
 import subprocess
 import unittest
 from dataclasses import replace
@@ -144,6 +145,24 @@ class Finding(HelperTest):
             self.assertEqual(
                 str(self.fault_of(f"#!/bin/sh\nkill -{number} $$\n")), f"inrc2pb: ended by {name}"
             )
+
+    def test_a_signal_while_a_program_starts_leaves_none(self):
+        begun = []
+
+        class Begun(subprocess.Popen):
+            """A process that runs when Ctrl-C comes, and that nobody else knows yet."""
+
+            def __init__(self, *words, **options):
+                super().__init__(*words, **options)
+                begun.append(self)
+                signal.raise_signal(signal.SIGINT)
+
+        sleeps = self.script("sleeps", "exec sleep 600\n")
+        with mock.patch.object(subprocess, "Popen", Begun):
+            with self.assertRaises(KeyboardInterrupt):
+                program.run_program(program=sleeps)
+        self.addCleanup(begun[0].kill)
+        self.assertEqual(begun[0].poll(), -signal.SIGKILL)
 
     def test_a_command_runs_through_a_link(self):
         link = self.folder / "roster"
