@@ -6,9 +6,11 @@ from pathlib import Path
 from typing import Callable, Generic, Hashable, Iterable, TypeVar
 
 _Value = TypeVar("_Value")
+# What tells whether files were changed: their names, times, sizes and numbers on the disk.
+Looks = tuple[tuple[str, int, int, int], ...]
 # A file that was changed within so many nanoseconds may be changed again without another time:
 # shares count in steps of two seconds.
-_STEP = 3_000_000_000
+STEP = 3_000_000_000
 
 
 class Kept(Generic[_Value]):
@@ -30,14 +32,14 @@ class Kept(Generic[_Value]):
                 return self._value
             self._value = None
             made = make()
-            if all(changed < now - _STEP for _, changed, _, _ in known):
+            if is_settled(known, now):
                 self._key = key
                 self._value = made
             return made
 
 
-def looks_of(files: Iterable[Path]) -> tuple[tuple[str, int, int, int], ...]:
-    """What tells whether files were changed: their names, times, sizes and numbers on the disk."""
+def looks_of(files: Iterable[Path]) -> Looks:
+    """The looks of these files."""
     looks = []
     for path in files:
         look = path.stat()
@@ -45,3 +47,9 @@ def looks_of(files: Iterable[Path]) -> tuple[tuple[str, int, int, int], ...]:
             (str(path), max(look.st_mtime_ns, look.st_ctime_ns), look.st_size, look.st_ino)
         )
     return tuple(looks)
+
+
+def is_settled(looks: Looks, now: int) -> bool:
+    """Whether files that had these looks at a time, in nanoseconds, have others if they are changed
+    after it."""
+    return all(changed < now - STEP for _, changed, _, _ in looks)

@@ -3,7 +3,9 @@ says what they have written beside the shifts, and for each week a roster and a 
 `inrc2pb` and for people."""
 
 import datetime
+import functools
 import json
+import time
 from pathlib import Path
 from typing import Any, Callable, Dict, List, Optional, Sequence, Tuple
 
@@ -23,6 +25,7 @@ from ..week.files import (
 from ..week.own_files import check_own
 from ..week.records import Cell, History, NurseDay, Scenario, Solution, in_plan
 from ..week.slots import MAX_NUMBER, MAX_WEEKS, text_of
+from .kept import Looks, is_settled, looks_of
 from .state import Record, SetDay, State
 
 
@@ -37,6 +40,8 @@ _TYPED = "typed"
 _PERIOD = "period"
 _OPEN = "open shifts"
 _WAS = "was"
+# The most records that are kept: the verbs of some years.
+_KEPT_RECORDS = 1 << 14
 # The most periods of a folder.
 _MOST_PERIODS = 9999
 
@@ -75,7 +80,7 @@ def record_text(record: Record) -> str:
 
 def read_record(folder: Path) -> Record:
     """The record of a plan's folder. Raises FileFault with place and cure if the file is not as a
-    verb has written it."""
+    verb has written it. A file is read again only if it has changed."""
     path = folder / NAME
     if not path.exists():
         raise FileFault(
@@ -83,7 +88,19 @@ def read_record(folder: Path) -> Record:
             0,
             "this folder is no plan: move it away, or type undo to go back to the plan before it",
         )
-    check_own(folder)
+    now = time.time_ns()
+    looks = looks_of((folder, path))
+    return _kept_record(path, looks) if is_settled(looks, now) else _record_in(path)
+
+
+@functools.lru_cache(maxsize=_KEPT_RECORDS)
+def _kept_record(path: Path, _looks: Looks) -> Record:
+    """The record in a file that has these looks, and so has its folder."""
+    return _record_in(path)
+
+
+def _record_in(path: Path) -> Record:
+    check_own(path.parent)
     if path.stat().st_size > _MOST_BYTES:
         raise FileFault(path, 0, f"the file has more than {_MOST_BYTES} bytes: {_CURE}")
     text = text_of(path)

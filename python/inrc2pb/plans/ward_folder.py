@@ -67,6 +67,7 @@ class WardFolder:
         self.top = top
         self.plans = top / PLANS
         self._book = Kept[Book]()
+        self._ward = Kept[Ward]()
 
     def spreadsheet(self) -> Path:
         """The only spreadsheet of the folder; the folder itself if its sheets are .csv files."""
@@ -106,8 +107,18 @@ class WardFolder:
     ) -> Ward:
         """The ward of a period of the spreadsheet, or of all its days; it has this name, if it has
         one, and these days away in its plan, and these shifts are left open."""
-        named = name or ward_name(self.spreadsheet())
-        return ward_of(self.book(), named, absences, period=period, opened=opened)
+        spreadsheet = self.spreadsheet()
+        return self._ward.of(
+            tables_of(spreadsheet),
+            (name, tuple(absences), period, tuple(opened)),
+            lambda: ward_of(
+                self.book(),
+                name or ward_name(spreadsheet),
+                absences,
+                period=period,
+                opened=opened,
+            ),
+        )
 
     def days(self) -> PlanDays:
         """All days of the sheet plan."""

@@ -62,17 +62,21 @@ def check_no_link(path: Path) -> None:
 def check_own(folder: Path) -> None:
     """Raises FileFault if the folder is a link, or has one, or what is neither file nor folder,
     such as a pipe."""
-    for path in (folder, *sorted(folder.iterdir())):
-        if path.is_symlink():
+    with os.scandir(folder) as inside:
+        entries: list["Path | os.DirEntry[str]"] = sorted(inside, key=lambda one: one.name)
+    for entry in [folder, *entries]:
+        if entry.is_symlink():
             raise FileFault(
-                path,
+                Path(entry),
                 0,
                 (
                     "this is a link, and no link is followed here: delete it, or type undo to go"
                     " back to the plan before it"
                 ),
             )
-        if not path.is_file() and not path.is_dir():
+        if not entry.is_file() and not entry.is_dir():
             raise FileFault(
-                path, 0, "this is no file: delete it, or type undo to go back to the plan before it"
+                Path(entry),
+                0,
+                "this is no file: delete it, or type undo to go back to the plan before it",
             )

@@ -12,7 +12,7 @@ from xml.etree import ElementTree
 from inrc2pb.sheets.ward import read_sheet
 from inrc2pb.judging.limits import limits_way_out
 from inrc2pb.judging.rules import Charge
-from inrc2pb.plans import pages
+from inrc2pb.plans import kept, pages
 from inrc2pb.plans.changes import days_off_beside_absences, shift_changes, with_few_changes
 from inrc2pb.plans.needless_changes import without_needless_changes
 from inrc2pb.plans.facts import unkept
@@ -38,6 +38,7 @@ from inrc2pb.search.bounds import PLAIN, PROVER, Bound
 from inrc2pb.shown.page import page_text
 from inrc2pb.week.dates import PlanDays
 from inrc2pb.week.facts import Charged
+from inrc2pb.week.faults import FileFault
 from inrc2pb.week.records import Absence, Cell, NurseDay, Request
 
 BARE = PlanDays(None, 2)
@@ -528,6 +529,20 @@ class Words(KeptTest):
             folder.mkdir(exist_ok=True)
             (folder / "plan.json").write_text(record_text(record))
             self.assertEqual(read_record(folder), record)
+
+    def test_the_file_of_a_plan_is_read_again_if_it_has_changed(self):
+        folder = self.last()
+        with mock.patch.object(kept, "STEP", 0):
+            known = read_record(folder)
+            self.assertIs(read_record(folder), known)
+            (folder / "plan.json").write_text(record_text(known._replace(typed="another")))
+            self.assertEqual(read_record(folder).typed, "another")
+            (folder / "link").symlink_to("plan.json")
+            with self.assertRaisesRegex(FileFault, "this is a link"):
+                read_record(folder)
+        # One that has just changed may change again, and look the same.
+        (folder / "link").unlink()
+        self.assertIsNot(read_record(folder), read_record(folder))
 
 
 class Weeks(KeptTest):

@@ -10,7 +10,7 @@ from unittest import mock
 from ward import HAS_CBC, run
 from xml.etree import ElementTree
 
-from inrc2pb.plans import pages, planning
+from inrc2pb.plans import kept, pages, planning
 from inrc2pb.plans.needless_changes import without_needless_changes
 from inrc2pb.plans.exchanges import more_even
 from inrc2pb.plans.facts import broken_agreements
@@ -315,6 +315,8 @@ class Sequences(PromiseTest):
         self.older = []
         self.refused = 0
         for where, name, made in (
+            # No file is changed but by a verb, so those of the last seconds are kept, too.
+            (kept, "STEP", 0),
             (planning, "search_plan", searched),
             (planning, "penalties", lambda plan: {}),
             (swap, "penalties", lambda plan: {}),
@@ -437,7 +439,7 @@ class Searches(PromiseTest):
             printed,
         )
         self.assertNotIn("Grace takes it", self.does("swap", "Finn", "Sat"))
-        for words, kept in (
+        for words, stays in (
             (("plan",), True),
             (("ill", "Grace", "Fri", "Sat"), False),
             (("plan", "--free"), False),
@@ -446,7 +448,7 @@ class Searches(PromiseTest):
         ):
             with self.subTest(words):
                 self.does(*words)
-                self.assertEqual(self.cells().get(saturday), ("Day", "Nurse") if kept else None)
+                self.assertEqual(self.cells().get(saturday), ("Day", "Nurse") if stays else None)
                 self.assertEqual(
                     [one.place for one in read_state(self.last()).set_days], [saturday]
                 )
