@@ -6,6 +6,7 @@ import importlib
 import os
 import shutil
 import signal
+import subprocess
 import sys
 import tempfile
 import time
@@ -24,10 +25,14 @@ from inrc2pb.programs import clock, program, progress  # noqa: E402
 from inrc2pb.week import files, records, writing  # noqa: E402, F401
 from inrc2pb.commands.command import MODULES, launch  # noqa: E402
 from inrc2pb.judging.absences import with_requests  # noqa: E402
+from inrc2pb.week.faults import ProgramFault  # noqa: E402
 
-# A copy of this process, as `run` makes it, then loads no command anew.
+# A copy of this process, as `begin_command` makes it, loads no command anew, and asks no program
+# again whether it is the right one.
 for command in MODULES.values():
     importlib.import_module(f"inrc2pb.commands.{command}")
+with contextlib.suppress(ProgramFault):
+    program.find_program()
 
 WARD = ROOT / "examples" / "ward"
 SCENARIO, HISTORY, WEEK, ROSTER = (
@@ -45,6 +50,8 @@ EARLY_ANSWER = ROOT / "tests" / "data" / "thirty_clasp_early.txt"
 if signal.getsignal(signal.SIGINT) == signal.SIG_IGN:
     signal.signal(signal.SIGINT, signal.default_int_handler)
 HAS_CLASP, HAS_CBC = (shutil.which(name) is not None for name in ("clasp", "cbc"))
+# A test has fewer files open.
+MOST_FILES = 1000
 # All weeks of the tests have ended, but for those of tests that say which day it is.
 clock.today = lambda: datetime.date(9999, 12, 31)
 # The seconds of a search that ends by itself, with a proof, and of a wait for what comes at once.
@@ -53,57 +60,108 @@ clock.today = lambda: datetime.date(9999, 12, 31)
 ENOUGH = 120
 
 
-def run(command, *words, environment=None):
-    """Runs a command in a copy of this process, where its library is loaded; its status, standard
-    output and standard error."""
-    output, printed = os.pipe()
-    with open(output, "rb") as pipe, tempfile.TemporaryFile() as said:
-        child = os.fork()
-        if not child:
-            os._exit(run_here(command, words, environment or {}, printed, said.fileno()))
-        os.close(printed)
-        text = pipe.read().decode()
-        _, ended = os.waitpid(child, 0)
-        said.seek(0)
-        return (
-            os.WEXITSTATUS(ended) if os.WIFEXITED(ended) else -os.WTERMSIG(ended),
-            text,
-            said.read().decode(),
-        )
+def run(command, *words, environment=None, errors="strict"):
+    """Runs a command in this process, or, with an environment of its own, in a copy of it; its
+    status, standard output and standard error. Output that is no UTF-8 is a fault if `errors` does
+    not say how to read it."""
+    # The time of --inrc2 begins with the process.
+    if environment is not None or "--inrc2" in words:
+        ran = begin_command(command, *words, environment=environment)
+        texts = [text.decode(errors=errors) for text in ran.communicate()]
+        return (ran.returncode, *texts)
+    with tempfile.TemporaryFile() as printed, tempfile.TemporaryFile() as said:
+        with own_signals(), output_to(printed, said):
+            status = status_of(command, words)
+        texts = []
+        for file in (printed, said):
+            file.seek(0)
+            texts.append(file.read().decode(errors=errors))
+        return (status, *texts)
 
 
-def run_here(command, words, environment, printed, said):
-    """Runs a command in this process, with these descriptors for its output; its status. The words,
-    the environment and the output of the process are then those of the command."""
-    os.dup2(printed, 1)
-    os.dup2(said, 2)
-    os.close(printed)
+def start_command(command, *words, **options):
+    """A command that has begun as its user starts it, which takes longer than a copy of this
+    process. The options are those of a Popen."""
+    path = str(HELPERS / f"inrc2pb-{command}")
+    pipes = dict.fromkeys(("stdout", "stderr"), subprocess.PIPE)
+    return subprocess.Popen([sys.executable, path, *map(str, words)], **{**pipes, **options})
+
+
+def begin_command(command, *words, environment=None, **options):
+    """A command that has begun in a copy of this process, where its library is loaded, and that
+    waits for no other thread at its end. The options are those of a Popen."""
+
+    def runs():
+        # The Popen waits until no process has the other end of one of its pipes.
+        os.closerange(3, MOST_FILES)
+        signal.signal(signal.SIGINT, signal.default_int_handler)
+        for number in (signal.SIGTERM, signal.SIGHUP):
+            signal.signal(number, signal.SIG_DFL)
+        os.environ.update(environment or {})
+        sys.stdin = open(0, closefd=False)
+        os._exit(status_of(command, words))
+
+    pipes = dict.fromkeys(("stdout", "stderr"), subprocess.PIPE)
+    return subprocess.Popen(
+        [command], preexec_fn=runs, restore_signals=False, **{**pipes, **options}
+    )
+
+
+def status_of(command, words):
+    """Runs a command in this process; its status. Its output goes to the descriptors 1 and 2."""
+    path = str(HELPERS / f"inrc2pb-{command}")
     sys.stdout, sys.stderr = (open(number, "w", closefd=False) for number in (1, 2))
-    sys.argv = [str(HELPERS / f"inrc2pb-{command}"), *map(str, words)]
-    os.environ.update(environment)
-    try:
-        launch()
-    except SystemExit as end:
-        return end.code
-    except BaseException:
-        traceback.print_exc()
-    finally:
-        for stream in (sys.stdout, sys.stderr):
-            stream.flush()
+    with mock.patch.object(sys, "argv", [path, *map(str, words)]):
+        try:
+            launch()
+        except SystemExit as end:
+            return end.code
+        except BaseException:
+            traceback.print_exc()
+        finally:
+            for stream in (sys.stdout, sys.stderr):
+                stream.flush()
     return 1
+
+
+@contextlib.contextmanager
+def output_to(printed, said):
+    """Within the block the standard output and standard error of this process are these files."""
+    streams = sys.stdout, sys.stderr
+    kept = [os.dup(number) for number in (1, 2)]
+    try:
+        for number, file in ((1, printed), (2, said)):
+            os.dup2(file.fileno(), number)
+        yield
+    finally:
+        sys.stdout, sys.stderr = streams
+        for number, before in zip((1, 2), kept):
+            os.dup2(before, number)
+            os.close(before)
+
+
+@contextlib.contextmanager
+def own_signals():
+    """After the block signals do what they did before."""
+    numbers = (signal.SIGINT, signal.SIGTERM, signal.SIGHUP, signal.SIGCHLD)
+    handlers = {number: signal.getsignal(number) for number in numbers}
+    try:
+        yield
+    finally:
+        for number, handler in handlers.items():
+            signal.signal(number, handler)
 
 
 @contextlib.contextmanager
 def time_ends_at(event):
     """Within the block the time of a search ends when it has the first roster (`improved`), or its
-    bound (`bound_rose`), and not before that. This holds for the commands of `run`, which begin as
-    copies of this process."""
+    bound (`bound_rose`), and not before that. This holds for the commands of `run`, too."""
     passed = [0.0]
     told = getattr(progress.Progress, event)
 
     def tells(*words):
         told(*words)
-        passed[0] = 1e9
+        passed[0] += 1e9
 
     fake = SimpleNamespace(monotonic=lambda: time.monotonic() + passed[0])
     with mock.patch.object(clock, "time", fake), mock.patch.object(progress.Progress, event, tells):

@@ -1,10 +1,9 @@
 """Tests of `inrc2pb-roster check`."""
 
 import os
-import subprocess
 import unittest
 
-from ward import HELPERS, HISTORY, ROSTER, SCENARIO, WEEK, WEEK_OPTIONS, HelperTest, run
+from ward import HISTORY, ROSTER, SCENARIO, WEEK, WEEK_OPTIONS, HelperTest, run
 
 # A file of the ward, a change, the file's option, the line of the fault, and a part of its message.
 MISTAKES = [
@@ -563,14 +562,11 @@ class Mistakes(HelperTest):
         for path, where in ((ward, "the scenario is"), (past, "this file is")):
             text = path.read_text()
             path.write_text(text, encoding="latin-1")
-            ran = subprocess.run(
-                [str(HELPERS / "inrc2pb-roster"), "check", "--sce", str(ward), "--his", str(past)],
-                stdout=subprocess.PIPE,
-            )
-            self.assertIn(f"{past} line 7: 'J".encode(), ran.stdout)
+            words = ("check", "--sce", ward, "--his", past)
+            _, printed, _ = run("roster", *words, errors="surrogateescape")
+            self.assertIn(f"{past} line 7: 'J", printed)
             self.assertIn(
-                f"rgen' is no nurse of NURSES: {where} not UTF-8: save it as UTF-8".encode(),
-                ran.stdout,
+                f"rgen' is no nurse of NURSES: {where} not UTF-8: save it as UTF-8", printed
             )
             path.write_text(text)
         self.assertEqual(

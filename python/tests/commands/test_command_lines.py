@@ -2,7 +2,6 @@
 the start."""
 
 import contextlib
-import functools
 import os
 import pty
 import re
@@ -22,6 +21,7 @@ from ward import (
     WEEK,
     WEEK_OPTIONS,
     HelperTest,
+    begin_command,
     program,
     run,
 )
@@ -218,16 +218,8 @@ class Starting(HelperTest):
 
     def test_ctrl_c_later_is_caught(self):
         running = self.folder / "running"
-        environment = {**os.environ, **self.slow_to_encode(running)}
-        command = [
-            sys.executable,
-            str(HELPERS / "inrc2pb-roster"),
-            "check",
-            *map(str, WEEK_OPTIONS),
-        ]
-        with subprocess.Popen(
-            command, stdout=subprocess.PIPE, stderr=subprocess.PIPE, env=environment
-        ) as check:
+        environment = self.slow_to_encode(running)
+        with begin_command("roster", "check", *WEEK_OPTIONS, environment=environment) as check:
             while not running.exists() and check.poll() is None:
                 time.sleep(0.05)
             check.send_signal(signal.SIGINT)
@@ -237,23 +229,8 @@ class Starting(HelperTest):
 
     def test_a_conversion_that_is_ended_leaves_no_file(self):
         for number in (signal.SIGTERM, signal.SIGHUP):
-            command = [
-                sys.executable,
-                str(HELPERS / "inrc2pb-solve"),
-                "--model",
-                "--out",
-                str(self.folder / "week.lp"),
-            ]
-            # A gate that runs on after its terminal is closed ignores HUP, and so would the
-            # conversion.
-            heeds = functools.partial(signal.signal, number, signal.SIG_DFL)
-            with subprocess.Popen(
-                command,
-                stdin=subprocess.PIPE,
-                stdout=subprocess.PIPE,
-                stderr=subprocess.PIPE,
-                preexec_fn=heeds,
-            ) as conversion:
+            words = ("--model", "--out", self.folder / "week.lp")
+            with begin_command("solve", *words, stdin=subprocess.PIPE) as conversion:
                 while not list(self.folder.iterdir()) and conversion.poll() is None:
                     time.sleep(0.05)
                 conversion.send_signal(number)
@@ -308,9 +285,7 @@ class Output(HelperTest):
     def on_terminal(self, *words):
         """What a command shows on a terminal."""
         terminal, end = pty.openpty()
-        with subprocess.Popen(
-            [*self.SHOW[:2], *map(str, words)], stdin=subprocess.DEVNULL, stdout=end, stderr=end
-        ):
+        with begin_command("roster", *words, stdin=subprocess.DEVNULL, stdout=end, stderr=end):
             os.close(end)
             shown = b""
             # The system reports the end of the output as a fault.

@@ -4,7 +4,6 @@ import os
 import re
 import shlex
 import signal
-import subprocess
 import sys
 import time
 import unittest
@@ -15,7 +14,6 @@ from ward import (
     ENOUGH,
     HAS_CBC,
     HAS_CLASP,
-    HELPERS,
     HISTORY,
     ROOT,
     ROSTER,
@@ -25,6 +23,7 @@ from ward import (
     WEEK_FILES,
     WEEK_OPTIONS,
     HelperTest,
+    begin_command,
     program,
     run,
     time_ends_at,
@@ -169,11 +168,7 @@ class Together(PeriodTest):
 
     def test_a_stop_keeps_the_best_plan(self):
         words = (*MONTH_OPTIONS, *MONTH_WEEKS, "--out", self.folder, "--time", 600)
-        with subprocess.Popen(
-            [sys.executable, str(HELPERS / "inrc2pb-solve"), *map(str, words)],
-            stdout=subprocess.PIPE,
-            stderr=subprocess.PIPE,
-        ) as period:
+        with begin_command("solve", *words) as period:
             while not (self.folder / "roster-3.txt").exists() and period.poll() is None:
                 time.sleep(0.05)
             period.send_signal(signal.SIGINT)
@@ -312,11 +307,7 @@ class PeriodFaults(PeriodTest):
         started.unlink(missing_ok=True)
         solver = f"sh -c 'trap \"{at_end}; exit 1\" TERM; touch {started}; sleep 60 & wait'"
         words = (*WARD_OPTIONS, "--out", self.folder, "--time", ENOUGH, "--solver", solver)
-        command = [sys.executable, str(HELPERS / "inrc2pb-solve"), *map(str, words)]
-        environment = {**os.environ, **(environment or {})}
-        with subprocess.Popen(
-            command, stdout=subprocess.PIPE, stderr=subprocess.PIPE, env=environment
-        ) as period:
+        with begin_command("solve", *words, environment=environment) as period:
             while not started.exists() and period.poll() is None:
                 time.sleep(0.05)
             period.send_signal(signal.SIGTERM)

@@ -12,9 +12,12 @@ import tempfile
 import time
 import unittest
 from pathlib import Path
+from unittest import mock
 
 from ward import HAS_CBC, HISTORY, ROSTER, SCENARIO, THIRTY_FILES, WARD, WEEK
-from ward import WEEK_FILES, HelperTest, program, run, run_here, time_ends_at
+from ward import WEEK_FILES, HelperTest, output_to, program, run, status_of, time_ends_at
+
+from inrc2pb.rows import row_run
 
 STOPS = 20
 SIGNALS = (signal.SIGINT, signal.SIGTERM)
@@ -56,6 +59,10 @@ class StopTest(HelperTest):
         self.chance = random.Random(1)
         self.room = self.folder / "room"
         self.room.mkdir()
+        # So a search starts each kind of process that it may start, and one of each.
+        two = mock.patch.object(row_run, "processors", lambda: 2)
+        two.start()
+        self.addCleanup(two.stop)
 
     def stopped(self, number, seconds, command, *words):
         """The status, the output and the messages of a command that gets this signal so many
@@ -66,8 +73,8 @@ class StopTest(HelperTest):
                 for each in SIGNALS:
                     signal.signal(each, signal.SIG_DFL)
                 tempfile.tempdir = str(self.room)
-                words = [str(word) for word in words]
-                os._exit(run_here(command, words, {}, os.dup(printed.fileno()), said.fileno()))
+                with output_to(printed, said):
+                    os._exit(status_of(command, words))
             time.sleep(seconds)
             before = work(child)
             began = time.monotonic()

@@ -6,12 +6,22 @@ import datetime
 import re
 import signal
 import subprocess
-import sys
 import time
 import unittest
 from dataclasses import replace
 from unittest import mock
-from ward import ENOUGH, HAS_CBC, HELPERS, ROSTER, HelperTest, files, program, run
+from ward import (
+    ENOUGH,
+    HAS_CBC,
+    HELPERS,
+    ROSTER,
+    HelperTest,
+    begin_command,
+    files,
+    program,
+    run,
+    start_command,
+)
 
 from inrc2pb.sheets.ward import read_sheet
 from inrc2pb.plans import planning
@@ -22,6 +32,7 @@ from inrc2pb.plans.swaps import Swap, Swaps
 from inrc2pb.plans.ward import first_plan
 from inrc2pb.plans.ward_folder import WardFolder
 from inrc2pb.plans.words import Wording
+from inrc2pb.rows import row_run
 from inrc2pb.sheets.ward_template import EXAMPLE
 from inrc2pb.week.dates import OtherPlan, PlanDays
 from inrc2pb.week.facts import Charged, Claim
@@ -219,6 +230,10 @@ class FolderTest(HelperTest):
         self.rows = {name: [list(map(str, row)) for row in rows] for name, rows in EXAMPLE.items()}
         self.rows["plan"] = [["nurse", *DATES], *(row[:15] for row in self.rows["plan"][1:])]
         self.write()
+        # Other processors would find nothing else, and begin with loading the library.
+        alone = mock.patch.object(row_run, "processors", lambda: 1)
+        alone.start()
+        self.addCleanup(alone.stop)
 
     def write(self):
         """Writes the sheets."""
@@ -599,16 +614,9 @@ class Verbs(FolderTest):
         self.assertEqual((past[1:3], past[3]), (["0", "0"], cells[last, 13][0]))
 
     def test_ctrl_c_leaves_a_whole_plan_or_none(self):
-        for seconds in (0.2, 0.6, 1.5):
-            command = [
-                sys.executable,
-                str(HELPERS / "inrc2pb-plan"),
-                str(self.ward),
-                "plan",
-                "--time",
-                "60",
-            ]
-            begun = subprocess.Popen(command, stdout=subprocess.DEVNULL, stderr=subprocess.DEVNULL)
+        quiet = dict.fromkeys(("stdout", "stderr"), subprocess.DEVNULL)
+        for seconds, begin in ((0.2, begin_command), (0.6, begin_command), (1.5, start_command)):
+            begun = begin("plan", self.ward, "plan", "--time", 60, **quiet)
             time.sleep(seconds)
             begun.send_signal(signal.SIGINT)
             begun.wait(timeout=ENOUGH)

@@ -7,14 +7,12 @@ import fcntl
 import os
 import re
 import signal
-import subprocess
-import sys
 import tempfile
 import time
 import unittest
 from test_plans import FolderTest
 from unittest import mock
-from ward import ENOUGH, HAS_CBC, HELPERS, run
+from ward import ENOUGH, HAS_CBC, begin_command, run
 
 from inrc2pb.plans import pages, ward_folder
 from inrc2pb.plans.ward_folder import WardFolder
@@ -87,11 +85,7 @@ class Waits(FolderTest):
 
     def begun(self, verb, said):
         """A run of this verb, as soon as it waits for another one."""
-        begun = subprocess.Popen(
-            [sys.executable, str(HELPERS / "inrc2pb-plan"), str(self.ward), verb],
-            stderr=said,
-            env=dict(os.environ),
-        )
+        begun = begin_command("plan", self.ward, verb, stderr=said)
         self.addCleanup(begun.kill)
         line = (
             f"another run works in {self.ward}: this one waits for its end, and its time begins"

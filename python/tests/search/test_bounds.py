@@ -1,9 +1,7 @@
 """Tests of lower bounds: `inrc2pb-bound` may prove them, lie, fail, be missing, or not end."""
 
 import json
-import os
 import signal
-import subprocess
 import sys
 import time
 import unittest
@@ -12,8 +10,8 @@ from pathlib import Path
 from types import SimpleNamespace
 from unittest import mock
 
-from ward import ENOUGH, HAS_CBC, HELPERS, HISTORY, SCENARIO, WARD, WEEK, WEEK_FILES
-from ward import HelperTest, files, program, run, time_ends_at
+from ward import ENOUGH, HAS_CBC, HISTORY, SCENARIO, WARD, WEEK, WEEK_FILES
+from ward import HelperTest, begin_command, files, program, run, time_ends_at
 
 from inrc2pb.programs.program import WeekFiles
 from inrc2pb.rows.certificate import Certificate, Leaf, Split
@@ -291,11 +289,7 @@ class Commands(FakeProver):
         which takes longer than the search waits."""
         self.prover("hang")
         self.log.unlink(missing_ok=True)
-        command = [sys.executable, str(HELPERS / "inrc2pb-solve"), *map(str, words)]
-        environment = {**os.environ, **self.environment}
-        with subprocess.Popen(
-            command, stdout=subprocess.PIPE, stderr=subprocess.PIPE, env=environment
-        ) as search:
+        with begin_command("solve", *words, environment=self.environment) as search:
             self.given()
             search.send_signal(number)
             printed, said = search.communicate(timeout=SOON)

@@ -4,8 +4,6 @@ others write, and files that may not be written."""
 import os
 import shutil
 import signal
-import subprocess
-import sys
 import time
 import unittest
 from pathlib import Path
@@ -13,7 +11,6 @@ from pathlib import Path
 from ward import (
     ENOUGH,
     HAS_CBC,
-    HELPERS,
     HISTORY,
     ROSTER,
     SCENARIO,
@@ -23,6 +20,7 @@ from ward import (
     WEEK_OPTIONS,
     ROOT,
     HelperTest,
+    begin_command,
     program,
     run,
 )
@@ -328,16 +326,15 @@ class Rosters(ChangingFiles):
     def test_garbage_in_the_folder_is_replaced_by_the_plan(self):
         out = self.folder / "out"
         words = [
-            *map(str, WEEK_OPTIONS),
+            *WEEK_OPTIONS,
             "--week",
-            str(WARD / "week-1.txt"),
+            WARD / "week-1.txt",
             "--out",
-            str(out),
+            out,
             "--time",
-            "600",
+            600,
         ]
-        command = [sys.executable, str(HELPERS / "inrc2pb-solve"), *words]
-        with subprocess.Popen(command, stdout=subprocess.PIPE, stderr=subprocess.PIPE) as searching:
+        with begin_command("solve", *words) as searching:
             while not (out / "history-2.txt").exists() and searching.poll() is None:
                 time.sleep(0.05)
             # The garbage is there before the search can end.
@@ -367,19 +364,7 @@ class Locks(ChangingFiles):
                 f" {self.answer(ROSTER)}\n"
             ),
         )
-        command = [
-            sys.executable,
-            HELPERS / "inrc2pb-solve",
-            *self.options,
-            "--time",
-            ENOUGH,
-            "--solver",
-            slow,
-            *words,
-        ]
-        search = subprocess.Popen(
-            [*map(str, command)], stdout=subprocess.PIPE, stderr=subprocess.PIPE
-        )
+        search = begin_command("solve", *self.options, "--time", ENOUGH, "--solver", slow, *words)
         self.addCleanup(search.communicate)
         self.addCleanup(search.kill)
         while not running.exists() and search.poll() is None:
@@ -418,10 +403,7 @@ class Locks(ChangingFiles):
             "--solver",
             self.solver("echo s UNKNOWN"),
         ]
-        command = [sys.executable, HELPERS / "inrc2pb-solve", *words]
-        second = subprocess.Popen(
-            [*map(str, command)], stdout=subprocess.PIPE, stderr=subprocess.PIPE
-        )
+        second = begin_command("solve", *words)
         said = second.stderr.readline()
         self.assertEqual(
             said.decode(),
@@ -436,12 +418,7 @@ class Locks(ChangingFiles):
 
     def test_a_wait_can_be_stopped(self):
         self.running("--out", self.target)
-        words = [*map(str, self.options), "--out", str(self.target), "--wait"]
-        second = subprocess.Popen(
-            [sys.executable, str(HELPERS / "inrc2pb-solve"), *words],
-            stdout=subprocess.PIPE,
-            stderr=subprocess.PIPE,
-        )
+        second = begin_command("solve", *self.options, "--out", self.target, "--wait")
         second.stderr.readline()
         second.terminate()
         _, said = second.communicate(timeout=ENOUGH)
@@ -482,15 +459,15 @@ class Protected(ChangingFiles):
             for path in (self.folder, *self.folder.iterdir()):
                 os.chown(path, NOBODY, NOBODY)
         self.folder.chmod(0o755)
-        ran = subprocess.run(
-            [sys.executable, str(HELPERS / f"inrc2pb-{command}"), *map(str, words)],
-            stdout=subprocess.PIPE,
-            stderr=subprocess.PIPE,
-            env={**os.environ, "INRC2PB": str(program.find_program())},
+        ran = begin_command(
+            command,
+            *words,
+            environment={"INRC2PB": str(program.find_program())},
             user=NOBODY if os.geteuid() == 0 else None,
             cwd="/",
         )
-        return ran.returncode, ran.stderr.decode()
+        _, said = ran.communicate(timeout=ENOUGH)
+        return ran.returncode, said.decode()
 
     def test_each_command_refuses_a_target_without_permission(self):
         text = self.worse.read_text()

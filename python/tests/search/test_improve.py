@@ -5,7 +5,6 @@ import re
 import shutil
 import signal
 import subprocess
-import sys
 import threading
 import time
 import unittest
@@ -16,7 +15,6 @@ from ward import (
     EARLY_ANSWER,
     ENOUGH,
     HAS_CBC,
-    HELPERS,
     ROOT,
     ROSTER,
     SCENARIO,
@@ -25,7 +23,7 @@ from ward import (
     WEEK_FILES,
     WEEK_OPTIONS,
 )
-from ward import HelperTest, program, run
+from ward import HelperTest, begin_command, program, run, start_command
 
 from inrc2pb.search import bounds, improving
 from inrc2pb.search.bounds import PLAIN, PROVER, Bound
@@ -119,7 +117,9 @@ class Searches(HelperTest):
 
     @unittest.skipUnless(HAS_CBC, "needs cbc")
     def test_a_roster_written_to_standard_output(self):
-        status, printed, _ = run("solve", *WEEK_OPTIONS, "--out", "/dev/stdout", "--time", ENOUGH)
+        # In a copy of this process it is a pipe.
+        words = ("--out", "/dev/stdout", "--time", ENOUGH)
+        status, printed, _ = run("solve", *WEEK_OPTIONS, *words, environment={})
         self.assertEqual(status, 0)
         self.assertIn("SOLUTION\n0 ward\n", printed)
         self.assertIn("penalty 20\n", printed)
@@ -327,13 +327,7 @@ class Stops(HelperTest):
         """A search of ten minutes that gets Ctrl-C when the file `running` exists: its status and
         its report."""
         words = [*WEEK_FILES.options(), "--time", "600", *words]
-        command = [sys.executable, str(HELPERS / "inrc2pb-solve"), *map(str, words)]
-        search = subprocess.Popen(
-            command,
-            stdout=subprocess.PIPE,
-            stderr=subprocess.DEVNULL,
-            env={**os.environ, **(environment or {})},
-        )
+        search = begin_command("solve", *words, environment=environment, stderr=subprocess.DEVNULL)
         self.addCleanup(search.kill)
         while not running.exists() and search.poll() is None:
             time.sleep(0.05)
@@ -378,11 +372,7 @@ class Stops(HelperTest):
         for number in (signal.SIGINT, signal.SIGTERM):
             target = self.folder / f"{number}.txt"
             words = [*THIRTY_FILES.options(), "--out", target, "--time", "600"]
-            search = subprocess.Popen(
-                [sys.executable, str(HELPERS / "inrc2pb-solve"), *map(str, words)],
-                stdout=subprocess.PIPE,
-                stderr=subprocess.PIPE,
-            )
+            search = start_command("solve", *words)
             line = search.stderr.readline()
             self.assertIn(b"penalty", line)
             search.send_signal(number)

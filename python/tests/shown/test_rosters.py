@@ -118,12 +118,9 @@ class Tables(HelperTest):
     def test_a_name_that_is_not_utf_8(self):
         roster = self.folder / "latin.txt"
         roster.write_bytes(ROSTER.read_bytes().replace(b"Amara", b"Am\xe4ra"))
-        page = subprocess.run(
-            [str(HELPERS / "inrc2pb-roster"), "show", "--html", "--roster", str(roster)],
-            stdout=subprocess.PIPE,
-            check=True,
-        ).stdout
-        self.assertIn("Am\ufffdra", page.decode("utf-8"))
+        status, page, said = run("roster", "show", "--html", "--roster", roster)
+        self.assertEqual(status, 0, said)
+        self.assertIn("Am\ufffdra", page)
         xml.dom.minidom.parseString(page)
 
     def test_letters_that_do_not_take_one_column(self):

@@ -12,7 +12,7 @@ import unittest
 from pathlib import Path
 from unittest import mock
 
-from ward import HELPERS, HelperTest, run
+from ward import HELPERS, HelperTest, begin_command, run
 
 from inrc2pb.solvers.linear_program import (
     ModelFault,
@@ -379,13 +379,9 @@ class InstalledSolvers(unittest.TestCase):
 
 class Command(unittest.TestCase):
     def run_it(self, *words, given=""):
-        return subprocess.run(
-            [str(COMMAND), *map(str, words)],
-            input=given,
-            stdout=subprocess.PIPE,
-            stderr=subprocess.PIPE,
-            text=True,
-        )
+        with begin_command("solve", *words, stdin=subprocess.PIPE, text=True) as command:
+            printed, said = command.communicate(given)
+        return subprocess.CompletedProcess(words, command.returncode, printed, said)
 
     def test_a_cut_model(self):
         cut = "* #variable= 1 #constraint= 2\n+1 x1 >= 1 ;\n"
