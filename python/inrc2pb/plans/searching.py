@@ -107,7 +107,11 @@ def search_plan(old: WardPlan, asked: Asked, progress: Progress) -> Found:
             else None
         )
         clock = Clock(asked.seconds)
-        search = PeriodSearch(weeks, kept.append, clock, progress, start=start)
+        # A search may count points that a plan has not: then its bound says nothing of plans.
+        is_bounded = not asked.few_changes and asked.agreed is not Keep.MOST
+        search = PeriodSearch(
+            weeks, kept.append, clock, progress, start=start, is_bounded=is_bounded
+        )
         with interrupts() as signals, signals.calling(search.interrupt):
             try:
                 search.run()
@@ -117,8 +121,7 @@ def search_plan(old: WardPlan, asked: Asked, progress: Progress) -> Found:
                 progress.warn(fault_line(fault))
     cells = [cell._replace(day=cell.day + old.first) for cell in kept[-1]]
     labelled = with_old_skills(old.scenario, cells, [*old.cells, *old.held.values()])
-    # The search may have counted points that a plan has not.
-    bound = None if asked.few_changes or asked.agreed is Keep.MOST else known_bound(search)
+    bound = known_bound(search)
     if bound:
         bound = bound._replace(has_runs=bool(beside.kept))
     return Found(old.with_cells(labelled), bound, clock.stopped)

@@ -123,7 +123,8 @@ class Bounds:
 
     def of(self, run: RowRun, keeping: Keeping, seconds: float) -> Optional[Bound]:
         """The bound of a search's certificate, for the rosters that keep the absences and limits
-        that these costs forbid to break."""
+        that these costs forbid to break. These seconds are for its proof, and for pricing it in
+        plain Python if it was not proved."""
         certificate = run.certificate()
         if certificate is None:
             return None
@@ -131,6 +132,7 @@ class Bounds:
         # Bounds speak of absences and limits alone.
         plan = replace(run.plan.kept(keeping), beside=DaysAway(), calls=Calls())
         only = _only(run.plan, keeping)
+        clock = Clock(seconds, self._clock)
         answer = self._prover.answer(self._options, self._name, certificate, plan.facts(), seconds)
         found = re.match("lower bound ([0-9]{1,18})\n", answer or "")
         if answer is not None and not found:
@@ -139,21 +141,21 @@ class Bounds:
             return Bound(int(found[1]), PROVER, only)
         points = run.lower_bound if run.plan == plan else None
         if points is None:
-            points = self._priced(plan, run.crews, certificate, seconds)
+            points = self._priced(plan, run.crews, certificate, clock)
         return None if points is None else Bound(points, PLAIN, only)
 
     def _priced(
-        self, plan: Plan, crews: Crews, certificate: Certificate, seconds: float
+        self, plan: Plan, crews: Crews, certificate: Certificate, clock: Clock
     ) -> Optional[Points]:
         """The bound of a certificate for a plan, in plain Python; None if that takes longer."""
-        clock = Clock(seconds, self._clock)
         try:
+            clock.check()
             return CasePricing(plan, crews, clock.check).bound_of(certificate, clock.check)
         except TimeIsOver:
             if not clock.stopped:
                 self._warn(
-                    f"the certificate takes more than {seconds:.0f} s to price in plain Python, so"
-                    " there is no bound"
+                    f"the certificate was not priced in {clock.limit - clock.began:.0f} s in plain"
+                    " Python, so there is no bound"
                 )
             return None
 

@@ -47,7 +47,8 @@ class PeriodSearch:
     """A search within the time of its clock. `keep` gets each better plan, after `inrc2pb extend`
     has checked its rosters; `proof` is the file for the certificate of the bound, and `start` the
     plan to begin with, if any. It may break rules: then its weeks of nurses are of use. The `seed`
-    begins the random choices of the search. A plan of `others` that is better is kept.
+    begins the random choices of the search. A plan of `others` that is better is kept. Without
+    `is_bounded` no bound is proved at its end.
 
     `penalty` is that of the best plan, with the forecast of weeks that are not known; `bound` is
     what no plan costs less than.
@@ -63,13 +64,16 @@ class PeriodSearch:
         start: Optional[Sequence[Cell]] = None,
         seed: int = 1,
         others: Others = lambda: None,
+        is_bounded: bool = True,
     ) -> None:
         self._weeks = weeks
+        self._is_bounded = is_bounded
         self._keep = keep
         self._whole = clock
         self._progress = progress
         self._others = others
-        self._clock = clock.part(clock.left() - _kept(clock.left(), weeks))
+        kept = _kept(clock.left(), weeks) if is_bounded else 0.0
+        self._clock = clock.part(clock.left() - kept)
         self._processes = Processes()
         self._bounds = Bounds(weeks.options(), weeks.scenario.name, proof, progress.warn)
         self._start = start
@@ -165,7 +169,7 @@ class PeriodSearch:
 
     def _take_bound(self, runs: Sequence[RowRun]) -> None:
         """Takes the bound of the plans that keep as much as the best one."""
-        if self._rank is None or not runs or self._weeks.later():
+        if self._rank is None or not runs or self._weeks.later() or not self._is_bounded:
             return
         keeping = FREE if self._rank[0] else ONLY_ABSENCES if self._rank[1] else STRICT
         if keeping == STRICT and self._beside_days_away and not self._weeks.calls.points:

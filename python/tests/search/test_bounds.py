@@ -139,8 +139,15 @@ class Proofs(FakeProver):
         # The search kept an absence, and the bound is that of all rosters, so leaves are priced.
         run = self.certified(self.away)
         self.assertIsNone(self.bounds(None).of(run, FREE, 0.0))
-        said = "the certificate takes more than 0 s to price in plain Python, so there is no bound"
+        said = "the certificate was not priced in 0 s in plain Python, so there is no bound"
         self.assertEqual(self.warnings, [said])
+
+    def test_a_proof_takes_its_time_from_the_pricing_of_leaves(self):
+        # After a stop both together have less than a second.
+        run = self.certified(self.away)
+        self.assertIsNone(self.bounds("hang").of(run, FREE, 0.5))
+        said = "the certificate was not priced in 0 s in plain Python, so there is no bound"
+        self.assertEqual(self.warnings[1:], [said])
 
     def test_a_temporary_folder_that_is_gone_costs_no_bound(self):
         run = self.certified(self.free)

@@ -124,6 +124,14 @@ class Searches(HelperTest):
         self.assertIn("SOLUTION\n0 ward\n", printed)
         self.assertIn("penalty 20\n", printed)
 
+    def test_a_roster_does_not_go_where_the_report_goes(self):
+        # In this process standard output is a file.
+        line = (
+            "inrc2pb-solve: /dev/stdout is standard output, where the report goes: name another"
+            " file"
+        )
+        self.assert_fault(run("solve", *WEEK_OPTIONS, "--out", "/dev/stdout"), line)
+
     @unittest.skipUnless(HAS_CBC, "needs cbc")
     def test_held_rows_and_early_stay(self):
         promised = self.solution("Grace Sat Day Nurse", name="promised.txt")
