@@ -168,6 +168,11 @@ def time_ends_at(event):
         yield
 
 
+def nurse_rows(nurse):
+    """The rows of a nurse in the ward's roster."""
+    return [row for row in ROSTER.read_text().splitlines() if row.startswith(f"{nurse} ")]
+
+
 class HelperTest(unittest.TestCase):
     """A test with a folder of its own."""
 

@@ -11,7 +11,8 @@ from dataclasses import replace
 from pathlib import Path
 from unittest import mock
 
-from ward import ENOUGH, HAS_CBC, ROOT, ROSTER, WEEK_FILES, WEEK_OPTIONS, HelperTest, program, run
+from ward import ENOUGH, HAS_CBC, ROOT, ROSTER, WEEK_FILES, WEEK_OPTIONS
+from ward import HelperTest, nurse_rows, program, run
 
 from inrc2pb.week.faults import Misuse
 from inrc2pb.programs.processes import Ended, Processes
@@ -89,7 +90,10 @@ class OwnSolvers(HelperTest):
 
     @unittest.skipUnless(HAS_CBC, "needs cbc")
     def test_places_for_an_lp_a_result_file_and_the_seconds(self):
-        status, report, _ = self.improve("--solver", "cbc {lp} sec {seconds} solve solution {sol}")
+        # With the shifts of one nurse cbc has an answer soon.
+        held = self.solution(*nurse_rows("Amara"))
+        solver = "cbc {lp} sec {seconds} solve solution {sol}"
+        status, report, _ = self.improve("--solver", solver, "--fix", held)
         self.assertEqual(status, 0)
         self.assertRegex(report, "\nlower bound 20 \\(.*\\)\nno roster costs less")
 
