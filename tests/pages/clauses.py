@@ -17,6 +17,7 @@ A clause is guarded if one of these holds:
   edit      an edit of must-fail/ was refused at a goal that names it, as in `returns-clause-same`
   values    an edit was refused there only by an answer that no longer fits, and
             tests/pages/refused_by_answers.txt has values at which the goal is false
+  law       no body can break it, because its line in the list names a law that says it of all values
 
 A proof by search may use a clause without naming it, so a clause of without_guard.txt may well be
 needed: its line says by what. The goals of the edits are those of the record, crates/*/edits.txt.
@@ -40,7 +41,7 @@ from calls import Clause, Contract  # noqa: E402
 ROOT = Path(__file__).resolve().parents[2]
 LIST = ROOT / "tests" / "pages" / "without_guard.txt"
 ANSWERS = ROOT / "tests" / "pages" / "refused_by_answers.txt"
-GUARDS = ("equation", "proof", "edit", "values", "nothing")
+GUARDS = ("equation", "proof", "edit", "values", "law", "nothing")
 
 
 class Refused(NamedTuple):
@@ -77,15 +78,20 @@ def is_refused(clause: Clause, is_alone: bool, goals: Set[Tuple[str, str]]) -> b
     return clause.label in named or is_alone and any(goal.startswith("returns") for goal in own)
 
 
-def guard(contract: Contract, is_alone: bool, named: Set[Clause], refused: Refused) -> str:
-    """The guard of a clause; these clauses are named in proofs."""
+def guard(
+    contract: Contract, is_alone: bool, named: Set[Clause], refused: Refused, reason: str
+) -> str:
+    """The guard of a clause; these clauses are named in proofs, and its line in the list has this
+    reason."""
     if edits.is_equation(contract.text):
         return "equation"
     if contract.clause in named:
         return "proof"
     if is_refused(contract.clause, is_alone, refused.searched):
         return "edit"
-    return "values" if is_refused(contract.clause, is_alone, refused.argued) else "nothing"
+    if is_refused(contract.clause, is_alone, refused.argued):
+        return "values"
+    return "law" if ties.tie_of(reason) == "law" else "nothing"
 
 
 def guards() -> Iterator[Tuple[Contract, str]]:
@@ -95,11 +101,13 @@ def guards() -> Iterator[Tuple[Contract, str]]:
     named = calls.named_in_proofs(crates, [contract.clause for contract in contracts])
     count = Counter(contract.clause._replace(label="") for contract in contracts)
     has_values = set(ties.listed(ANSWERS))
+    known = ties.listed(LIST)
     refused = {crate: refused_at(crate, has_values) for crate in crates}
     for contract in (contract for contract in contracts if contract.is_public):
         clause = contract.clause
         is_alone = count[clause._replace(label="")] == 1
-        yield contract, guard(contract, is_alone, named, refused[clause.crate])
+        reason = known.get(str(clause), "")
+        yield contract, guard(contract, is_alone, named, refused[clause.crate], reason)
 
 
 def differences(found: List[Tuple[Contract, str]]) -> Iterator[str]:
@@ -109,7 +117,7 @@ def differences(found: List[Tuple[Contract, str]]) -> Iterator[str]:
     listed = {
         str(one.clause): one.text
         for one, guard in found
-        if guard == "nothing"
+        if guard in ("law", "nothing")
         or guard == "edit"
         and known.get(str(one.clause), "").startswith("edit ")
     }
@@ -124,7 +132,7 @@ def differences(found: List[Tuple[Contract, str]]) -> Iterator[str]:
 def write(found: List[Tuple[Contract, str]]) -> None:
     """Writes the list anew, with the reasons that it has."""
     known = ties.listed(LIST)
-    without = (str(one.clause) for one, guard in found if guard == "nothing")
+    without = (str(one.clause) for one, guard in found if guard in ("law", "nothing"))
     ties.write(LIST, {clause: known.get(clause, "") for clause in without})
 
 

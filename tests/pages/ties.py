@@ -20,6 +20,9 @@ sys.path.insert(0, str(ROOT / "tests" / "edits"))
 
 import record  # noqa: E402
 
+# The kinds of reasons that name what needs a promise.
+TIES = ("edit", "law", "proof")
+
 
 def listed(file: Path) -> Dict[str, str]:
     """The names of a list, each with its reason."""
@@ -61,6 +64,12 @@ def fault_of(reason: str, definition: str) -> str:
     if kind == "by" and what not in " ".join(definition.split()):
         return f"its definition has no '{what}'"
     return "" if reason else "its line says nothing"
+
+
+def tie_of(reason: str) -> str:
+    """The first kind of the reason that names what needs the promise, or `nothing`."""
+    kinds = (one.partition(" ")[0] for one in reason.split("; "))
+    return next((kind for kind in kinds if kind in TIES), "nothing")
 
 
 def differences(file: Path, found: Dict[str, str]) -> Iterator[str]:
