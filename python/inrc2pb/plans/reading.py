@@ -74,8 +74,8 @@ class PlanReader:
         periods = self.periods()
         days = {period.number: period.days for period in periods if not period.is_over}
         if periods and periods[-1].days.monday is not None:
-            after = periods[-1].days.next()._replace(weeks=periods[0].days.weeks)
             with contextlib.suppress(FileFault, FileFaults):
+                after = periods[-1].days.next()._replace(weeks=self._usual_weeks(periods))
                 if self.folder.days().first_of(after) is not None:
                     days[periods[-1].number + 1] = after
         return days
@@ -85,7 +85,20 @@ class PlanReader:
         this state, which is not written yet."""
         periods = self.periods()
         number = self._number if self._number is not None else running(periods)
-        return self.plan_of(number, corrected) if periods else first_plan(self.folder.ward())
+        return self.plan_of(number, corrected) if periods else first_plan(self._first_ward())
+
+    def _first_ward(self) -> Ward:
+        """The ward of the first period: all days of the sheet plan, if this has not the days of
+        several ones."""
+        weeks = self.folder.usual_weeks()
+        days = self.folder.days() if weeks else None
+        return self.folder.ward(
+            period=_first_weeks(days, days._replace(weeks=0), weeks) if days and weeks else None
+        )
+
+    def _usual_weeks(self, periods: Sequence[Period]) -> int:
+        """The weeks of a new period: those of the spreadsheet, or of the first period."""
+        return self.folder.usual_weeks() or periods[0].days.weeks
 
     def plan_of(self, number: int, corrected: Optional[State] = None) -> WardPlan:
         """The same of the period with this number, which has a plan, or follows one that has."""
@@ -100,7 +113,7 @@ class PlanReader:
         state = state_of(known) if known else begun
         assert state
         state = replace(state, is_as_planned=before is not None and not before.is_over)
-        weeks = next(iter(periods.values())).days.weeks
+        weeks = self._usual_weeks(list(periods.values()))
         days = state.days if known else _first_weeks(self.folder.days(), state.days, weeks)
         ward = self.folder.ward(state.start.scenario, state.absences, days, state.opened)
         after = periods.get(number + 1)

@@ -15,6 +15,7 @@ from typing import Callable, Dict, Iterator, List, Optional, Sequence, TextIO, T
 
 from ..programs.interrupts import interrupts
 from ..sheets.open_shifts import OpenShift
+from ..sheets.period_row import weeks_of_period
 from ..sheets.plan_days import read_days
 from ..sheets.sheet_files import Book, read_book
 from ..sheets.ward import Ward, ward_name, ward_of
@@ -123,6 +124,10 @@ class WardFolder:
     def days(self) -> PlanDays:
         """All days of the sheet plan."""
         return read_days(self.book()).sheet
+
+    def usual_weeks(self) -> int | None:
+        """The weeks of a period, if the spreadsheet says how many."""
+        return weeks_of_period(self.book())
 
     def book(self) -> Book:
         """The spreadsheet, which is read again only if it has changed."""

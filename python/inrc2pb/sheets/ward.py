@@ -51,6 +51,7 @@ from .odd_tables import book_warnings, skill_warnings, ward_warnings
 from .employment import employed, with_changed_contracts
 from .open_shifts import OpenShift, lowered
 from .older_names import Names, Renamed
+from .period_row import without_period
 from .plan_days import Days, plan_warnings, read_days, week_of_row_warnings
 from .plan_sheets import (
     COUNTED,
@@ -233,7 +234,7 @@ def ward_of(
     These shifts are left open.
     Raises FileFaults if sheets have mistakes, or more than files can have."""
     columns = days_of(book, period)
-    here, away_words, changes = employed(book, columns)
+    here, away_words, changes = employed(_with_contracts(book), columns)
     written = with_written(here, columns, [*away_words, *absences])
     days = read_days(written, period)
     with Gathering() as faults:
@@ -268,6 +269,14 @@ def ward_of(
     odd, reach = _odd_weeks(ward)
     warnings = [*_odd_sheets(written, days, tables, sheets, ward.times), *odd]
     return replace(ward, warnings=warnings, reach=reach)
+
+
+def _with_contracts(book: Book) -> Book:
+    """The spreadsheet without the row on periods, if its sheet of contracts can be read."""
+    try:
+        return without_period(book)
+    except (FileFault, FileFaults):
+        return book
 
 
 def _in_plan(weeks: Iterable[Mapping[Tuple[str, int], str]]) -> Dict[NurseDay, str]:

@@ -1,6 +1,7 @@
 """Tests of a next period that is planned before this one ends."""
 
 import datetime
+import shutil
 import unittest
 
 from test_next_period import PeriodTest
@@ -50,6 +51,38 @@ class CalendarTest(PeriodTest):
 
     def january(self):
         return self.reader().of_dates([str(NEXT)], plans=False).current()
+
+
+class PeriodRow(CalendarTest):
+    def says(self, *cells):
+        """The sheet of contracts has a row with the weeks of a period."""
+        self.rows["contracts"].append(["period", *cells])
+        self.write()
+
+    def test_the_first_period_of_a_sheet_with_several(self):
+        shutil.rmtree(self.ward / "plans")
+        self.assertEqual(self.reader().current().days, PlanDays(MONDAY, 4))
+        self.says(2)
+        plan = self.reader().current()
+        self.assertEqual(plan.days, PlanDays(MONDAY, 2))
+        self.assertNotIn("period", plan.scenario.contracts)
+
+    def test_the_next_period_has_other_weeks(self):
+        self.assertEqual(self.january().days.weeks, 2)
+        self.says("", 1)
+        self.assertEqual(self.january().days, PlanDays(NEXT, 1))
+        self.assertEqual(self.reader().current().days, PlanDays(MONDAY, 2))
+
+    def test_mistakes(self):
+        for cells, says in (
+            ((), "column A: the row period has the number of weeks after which contracts begin"),
+            ((2, 3), "column A: the row period has the number of weeks after which contracts"),
+            ((0,), "column B: a period has at least one week"),
+            (("two",), "column B: 'two' is no whole number"),
+        ):
+            self.says(*cells)
+            self.assertIn(f"sheet contracts, row 4, {says}", run("plan", self.ward, "check")[2])
+            self.rows["contracts"].pop()
 
 
 class NextBeforeTheEnd(CalendarTest):
