@@ -22,6 +22,8 @@ SEEN = "seen"
 FORMS = tuple(verb.form for verb in VERBS)
 _BY_VERB = {form.verb: form for form in FORMS}
 _CHECKS = ("free",)
+# The verbs of a whole period.
+_WITHOUT_DAY = ("plan", "page")
 # The fields of a form that may stay empty, and the text of the choice that leaves them so; of
 # others a user has to choose.
 _EMPTY = {
@@ -51,9 +53,10 @@ def not_written(fields: Fields) -> List[str]:
     )
 
 
-def event_of(fields: Fields, seconds: Optional[float] = None) -> Event:
-    """What a form asks for; a search has so many seconds, if the form does not say how many. Raises
-    Misuse if no form of the page is so."""
+def event_of(fields: Fields, seconds: Optional[float] = None, period: str = "") -> Event:
+    """What a form asks for; a search has so many seconds, if the form does not say how many. A verb
+    of a whole period is for the one that begins on the date `period`. Raises Misuse if no form of
+    the page is so."""
     verb = fields.get("verb", "")
     if verb not in _BY_VERB:
         raise Misuse(
@@ -64,6 +67,8 @@ def event_of(fields: Fields, seconds: Optional[float] = None) -> Event:
         for name in ("nurse", "first", "other", "other day", "last", "from", "shift", "note")
         if fields.get(name)
     ]
+    if verb in _WITHOUT_DAY and not words and period:
+        words = [period]
     if verb == "over":
         words = fields.get("corrections", "").split()
     if verb == "away":

@@ -74,6 +74,10 @@ class Shown(NamedTuple):
     # The swap that was written for the cell that was clicked.
     agreed: Optional[Swap] = None
     roster: Optional["Roster"] = None
+    # The texts and addresses of the pages of other periods, and whether this is of the one that
+    # runs.
+    periods: Sequence[Tuple[str, str]] = ()
+    runs: bool = True
 
     @property
     def stamp(self) -> str:
@@ -129,6 +133,7 @@ def page_markup(plan: Optional[WardPlan], shown: Shown, address: str) -> str:
     )
     parts: List[Markup] = [
         element("h1", name),
+        *_periods(shown),
         *_lines(shown.refused, True),
         *([] if is_old else _said(said, shown, address)),
     ]
@@ -154,10 +159,18 @@ def page_markup(plan: Optional[WardPlan], shown: Shown, address: str) -> str:
     return document(heads, parts)
 
 
+def _periods(shown: Shown) -> List[Markup]:
+    """Links to the pages of other periods, if there are some."""
+    links = [joined(element("a", text, href=address), " ") for text, address in shown.periods]
+    return [element("p", *links, class_="links")] if links else []
+
+
 def _forms(plan: WardPlan, shown: Shown, address: str) -> Markup:
     """The forms of the verbs, those with fields folded, and links to the pages of weeks that are
     over."""
     forms = [form for form in FORMS if plan.is_planned or not form.needs_plan]
+    # A week ends in the period that runs.
+    forms = [form for form in forms if shown.runs or form.verb != "over"]
     # Buttons that need no fields come first.
     forms.sort(key=lambda form: bool(form.fields))
     kept = shown.kept

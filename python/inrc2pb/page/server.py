@@ -71,7 +71,8 @@ class _Handler(BaseHTTPRequestHandler):
         path, query = self._path()
         if path is None:
             return
-        page = self.site.page(path, query)
+        site, path = self.site.view(path)
+        page = site.page(path, query)
         if page:
             self._answer(page.text, kind=page.kind)
         else:
@@ -81,6 +82,7 @@ class _Handler(BaseHTTPRequestHandler):
         path, _ = self._path()
         if path is None:
             return
+        site, path = self.site.view(path)
         lengths: List[str] = self.headers.get_all("Content-Length", [])
         length = (
             _length(lengths[0])
@@ -98,9 +100,9 @@ class _Handler(BaseHTTPRequestHandler):
             fields = dict(parse_qsl(self.rfile.read(length).decode(), max_num_fields=_MOST_FIELDS))
         except ValueError:
             return self._refuse(400, "this is no form of the page")
-        query = self.site.post(fields)
+        query = site.post(fields)
         self.send_response(303)
-        self.send_header("Location", f"{self.site.base}{query}")
+        self.send_header("Location", f"{site.base}{query}")
         self.send_header("Content-Length", "0")
         self.end_headers()
 

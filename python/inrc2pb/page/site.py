@@ -14,7 +14,8 @@ from ..plans.ward import WardPlan
 from ..plans.words import PeriodOver
 from ..shown.calendars import file_names
 from ..shown.page import page_text
-from ..week.faults import Misuse
+from ..week.dates import PlanDays
+from ..week.faults import FileFault, FileFaults, Misuse
 from ..week.own_files import own_bytes
 from ..week.records import NurseDay
 from .forms import SEEN, STAMP, SURE, event_of, not_written, writes
@@ -51,16 +52,45 @@ class Site:
     a page of another name that leads to this server, are refused.
     """
 
-    def __init__(self, jobs: Jobs, origins: Sequence[str], secret: str) -> None:
+    def __init__(self, jobs: Jobs, origins: Sequence[str], secret: str, period: str = "") -> None:
         self.jobs = jobs
         self.origins = origins
         self.hosts = {urlsplit(origin).netloc for origin in origins}
         self.base = f"/{secret}/"
+        # The first day of the period that is shown, if that is not the one that runs.
+        self._period = period
+        self._views: Dict[str, Site] = {}
         self.name = ward_name(jobs.folder.top)
         self._kept = Kept[WardPlan]()
         # The last plan that was shown, and its roster.
         self._shown: Optional[Tuple[WardPlan, Roster]] = None
         self._lock = threading.Lock()
+
+    def view(self, path: str) -> "Tuple[Site, str]":
+        """The site of the period that a path names, and the path in it."""
+        folder, slash, rest = path.partition("/")
+        later = {f"from-{days.monday}": str(days.monday) for days in self._later()} if slash else {}
+        if folder not in later:
+            return self, path
+        secret = f"{self.base.strip('/')}/{folder}"
+        view = Site(self.jobs, self.origins, secret, later[folder])
+        return self._views.setdefault(folder, view), rest
+
+    def _later(self) -> Sequence[PlanDays]:
+        """The periods after the one that runs, if the folder can be read."""
+        try:
+            return self.jobs.verbs().later_periods()
+        except (FileFault, FileFaults, Misuse, OSError):
+            return ()
+
+    def _periods(self) -> List[Tuple[str, str]]:
+        """The texts and addresses of the pages of other periods."""
+        top = self.base.replace(f"from-{self._period}/", "")
+        runs = [("The period that runs", top)] if self._period else []
+        others = [days for days in self._later() if str(days.monday) != self._period]
+        return runs + [
+            (f"Period from {days.text(0)}", f"{top}from-{days.monday}/") for days in others
+        ]
 
     @property
     def spreadsheet(self) -> str:
@@ -91,7 +121,9 @@ class Site:
         """The plan that holds, which is read again only if a file of it, or of the spreadsheet, has
         changed."""
         folder = self.jobs.folder
-        return self._kept.of(folder.files(), folder.stamp, self.jobs.verbs().current)
+        return self._kept.of(
+            folder.files(), folder.stamp, lambda: self.jobs.verbs().current(self._period)
+        )
 
     def roster(self, plan: Optional[WardPlan]) -> Optional[Roster]:
         """The roster of a plan, if it has one; of the last plan it is known."""
@@ -116,7 +148,7 @@ class Site:
         seen = self.jobs.folder.seen
         is_sure = SURE in fields and fields.get(SEEN, seen) == seen
         try:
-            event = event_of(fields, self.jobs.seconds)
+            event = event_of(fields, self.jobs.seconds, self._period)
             if stamp is not None:
                 self.jobs.check_stamp(stamp)
                 self.jobs.check_free()
@@ -150,7 +182,7 @@ class Site:
         if is_old or (self.jobs.runs and writes(form)):
             return None
         try:
-            answer = self.jobs.asked(event_of(form, self.jobs.seconds))
+            answer = self.jobs.asked(event_of(form, self.jobs.seconds, self._period))
         except Misuse as fault:
             return Sent(form, fault_lines(fault), True)
         is_refused = answer.fault is not None or (
@@ -209,12 +241,15 @@ class Site:
             seconds=self.jobs.seconds,
             agreed=self.jobs.verbs().agreed_swap(plan, place) if plan and place else None,
             roster=self.roster(plan),
+            periods=self._periods(),
+            runs=not self._period,
         )
 
     def _page_of_plan(self, path: str, plan: WardPlan) -> Optional[Page]:
         """Another page of a plan: with costs, for the wall, of calendars, or a calendar."""
         top = self.jobs.folder.top
-        there = own_calendars(top) if plan.state.published else set()
+        place = top / f"from-{self._period}" if self._period else top
+        there = own_calendars(place) if plan.state.published else set()
         names = {
             f"{CALENDARS}/{quote(name)}": name
             for name in file_names(plan.scenario.nurses).values()
@@ -227,7 +262,7 @@ class Site:
             return Page(calendars_markup(plan, self.base, there))
         if path in names:
             return Page(
-                own_bytes(top, f"{CALENDARS}/{names[path]}").decode(errors="replace"), _CALENDAR
+                own_bytes(place, f"{CALENDARS}/{names[path]}").decode(errors="replace"), _CALENDAR
             )
         return None
 

@@ -2,6 +2,7 @@
 
 from dataclasses import replace
 
+from ..week.dates import PlanDays
 from ..week.records import NurseDay
 from .planned import Planned
 from .store import Means, PlanStore
@@ -33,9 +34,14 @@ class Verbs:
     def __init__(self, folder: WardFolder, means: Means) -> None:
         self._store = PlanStore(folder, means)
 
-    def current(self) -> WardPlan:
-        """The plan that holds, with what the spreadsheet says now."""
-        return self._store.current()
+    def current(self, first: str = "") -> WardPlan:
+        """The plan that holds, with what the spreadsheet says now: that of the period that runs, or
+        of the one that begins on this date."""
+        return self._store.of_dates([first], plans=False).current()
+
+    def later_periods(self) -> list[PlanDays]:
+        """The days of the periods after the one that runs that are planned or can be."""
+        return [days for _, days in sorted(self._store.open_days().items())][1:]
 
     def worked_pages(self, now: WardPlan | None) -> dict[str, str]:
         """The pages of weeks that are over, with this plan, if there is one, and their texts."""
