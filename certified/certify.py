@@ -220,19 +220,17 @@ def table(found: Dict[str, Row]) -> str:
         name: [row for row in found.values() if family_of(row) == name] for name in FAMILIES
     }
     lines = [
-        "| name | how many | nurses (N) | variables | constraints | solved | what is special |",
-        "|---|---:|---:|---:|---:|---:|---|",
+        "| name | how many | solved | nurses (N) | variables | what is special |",
+        "|---|---:|---:|---:|---:|---|",
     ]
     for name, rows_of_family in families.items():
         rest, special = FAMILIES[name]
         cells = [
             f"`{name}-{rest}`",
             str(len(rows_of_family)),
-            *(
-                _range([getattr(row, column) for row in rows_of_family])
-                for column in ("nurses", "variables", "constraints")
-            ),
             str(sum(map(is_known, rows_of_family))),
+            _range([row.nurses for row in rows_of_family]),
+            _range([row.variables for row in rows_of_family]),
             special,
         ]
         lines.append(f"| {' | '.join(cells)} |")
@@ -241,7 +239,7 @@ def table(found: Dict[str, Row]) -> str:
 
 def _range(numbers: List[int]) -> str:
     """The lowest and the highest of the numbers."""
-    return f"{min(numbers)} to {max(numbers)}"
+    return f"{min(numbers)}-{max(numbers)}"
 
 
 def _open_lines(known: List[Row]) -> List[str]:

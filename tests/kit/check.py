@@ -54,12 +54,12 @@ SCRIPTS = {
     "tests/pages/repository.sh": r"(crates|examples|bench|package|tests/pages|tests/edits|\.ci)/.*"
     r"|python/(launcher|inrc2pb-).*|(CHANGELOG|CONTRIBUTING)\.md"
     r"|docs/(benchmark|changing|install|layers|serving|trusted)\.md|.*\.sh",
-    "tests/pages/reading.sh": r"crates/.*|docs/reading\.md|tests/pages/.*\.py",
+    "tests/pages/reading.sh": r"crates/.*|docs/(definitions|reading)\.md|tests/pages/.*\.py",
     "tests/pages/guards.sh": r"tests/pages/.*\.py",
     "tests/pages/build.sh": r"build\.py",
     "tests/pages/edits.sh": r"build\.py|tests/edits/.*",
     "tests/pages/install.sh": r"Makefile|package/.*",
-    "python/tests/manual.sh": r"man/.*|python/inrc2pb/commands/.*|docs/(answers|ward_reference)\.md",
+    "python/tests/manual.sh": r"man/.*|python/inrc2pb/commands/.*|docs/answers\.md",
     "tests/program/manual.sh": r"(man|completions)/.*",
 }
 # A script that is changed is run itself, but for the one that runs all tests of Python.

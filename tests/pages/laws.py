@@ -23,10 +23,8 @@ HEAD = "| law | statement |\n|---|---|\n"
 # The laws on the page, which link the rules, the model and a bound. Those that it prints itself, of the
 # programs and their files, are not in its table, nor are those that serve others.
 ON_THE_PAGE = (
-    "a_period_of_one_week_is_a_week",
     "certificate_bound_is_sound",
     "min_objective_is_min_penalty",
-    "held_cells_add_only_that_they_are_true",
 )
 CRATES_OF_TESTS = ("call_tests", "run_tests", "call_report", "who_fits")
 

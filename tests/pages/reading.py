@@ -1,6 +1,6 @@
 #!/usr/bin/env python3
-"""Compares the lists of docs/reading.md with the definitions that the contracts of the runs rest
-on.
+"""Compares the lists of docs/definitions.md, and their sums on docs/reading.md, with the definitions
+that the contracts of the runs rest on.
 
 usage: reading.py [--fix]
 
@@ -13,9 +13,10 @@ other file defines a name of the lists. Each definition has a comment above it.
 For two statements the page says which files of the other lists they rest on, by the names in their
 definitions (reach.py), for readers who want no more than these statements.
 
-The page gives the lines of each file; for each list its files, their lines, and the lines of
-definitions (without imports, comments and blank lines); for each belief the files to read for it;
-and the number of public definitions in the first two lists. All of this --fix writes.
+The first page gives the lines of each file; for each list its files, their lines, and the lines of
+definitions (without imports, comments and blank lines). The other one gives for each belief the
+files to read for it, and the number of public definitions in the first two lists. All of this --fix
+writes.
 """
 
 import argparse
@@ -31,7 +32,8 @@ import reach  # noqa: E402
 
 ROOT = Path(__file__).resolve().parents[2]
 CRATES = ROOT / "crates"
-PAGE = ROOT / "docs" / "reading.md"
+PAGE = ROOT / "docs" / "definitions.md"
+BELIEFS_PAGE = ROOT / "docs" / "reading.md"
 EXACT = CRATES / "rota_pb/specs/ExactModel.antt"
 ENCODE = ("rota_pb/src/encoding.rt", "run_encode")
 DECODE = ("rota_pb/src/decoding.rt", "run_decode")
@@ -185,7 +187,7 @@ def section(page: str, heading: str) -> Tuple[int, int]:
     """Where the text below a heading with these words begins and ends."""
     begin = re.search(rf"(?m)^## .*{heading}.*$", page)
     if not begin:
-        sys.exit(f"FAILED: docs/reading.md has no heading with the words '{heading}'")
+        sys.exit(f"FAILED: docs/definitions.md has no heading with the words '{heading}'")
     end = page.find("\n## ", begin.end())
     return begin.end(), end if end >= 0 else len(page)
 
@@ -306,13 +308,6 @@ def defined_twice(files: Iterable[Path]) -> Iterator[str]:
             yield f"{word} is defined in {' and in '.join(map(name, found))}"
 
 
-def compare_defined(page: str, files: List[Path]) -> Iterator[str]:
-    """The fault of the number of public definitions in the first lists, whose files are given."""
-    found = DEFINED.search(page)
-    if not found or int(found.group(2)) != defined(files):
-        yield f"the first two lists have {defined(files)} public definitions"
-
-
 def fixed(page: str, heading: str, wanted: List[Path]) -> str:
     """The page with the right counts and rows in a list."""
     first, last = section(page, heading)
@@ -323,12 +318,15 @@ def fixed(page: str, heading: str, wanted: List[Path]) -> str:
     return page[:first] + text + page[last:]
 
 
-def right(page: str) -> str:
-    """The page with all that --fix writes."""
-    every = list(lists())
-    first_files = [file for _, wanted, _ in every[:FIRST_LISTS] for file in wanted]
-    for heading, wanted, _ in every:
+def right_lists(page: str) -> str:
+    """The page of the lists with all that --fix writes."""
+    for heading, wanted, _ in lists():
         page = fixed(page, heading, wanted)
+    return page
+
+
+def right_sums(page: str, first_files: List[Path]) -> str:
+    """The page of beliefs with all that --fix writes."""
     page = BELIEVED.sub(beliefs(), page, count=1)
     return DEFINED.sub(rf"\g<1>{defined(first_files)}\g<3>", page)
 
@@ -341,8 +339,15 @@ def misses(page: str) -> Iterator[str]:
             yield f"the list '{heading}' has {total(wanted)}, and other rows"
         if heading in RESTING and rests(heading) not in page[first:last]:
             yield f"the list '{heading}' rests on other files"
+
+
+def misses_sums(page: str, first_files: List[Path]) -> Iterator[str]:
+    """The same of the page of beliefs."""
     if beliefs() not in page:
         yield "the table of what to believe has other files or lines"
+    found = DEFINED.search(page)
+    if not found or int(found.group(2)) != defined(first_files):
+        yield f"the first two lists have {defined(first_files)} public definitions"
 
 
 def lists() -> Iterator[Tuple[str, List[Path], List[Path]]]:
@@ -363,13 +368,15 @@ def main() -> int:
     is wrong."""
     parser = argparse.ArgumentParser(description=(__doc__ or "").split("\n")[0])
     parser.add_argument("--fix", action="store_true", help="write the lists on the page")
-    page = PAGE.read_text(encoding="utf-8")
-    if parser.parse_args().fix:
-        page = right(page)
-        PAGE.write_text(page, encoding="utf-8")
     every = [wanted for _, wanted, _ in lists()]
+    first_files = sum(every[:FIRST_LISTS], [])
+    if parser.parse_args().fix:
+        PAGE.write_text(right_lists(PAGE.read_text(encoding="utf-8")), encoding="utf-8")
+        sums = right_sums(BELIEFS_PAGE.read_text(encoding="utf-8"), first_files)
+        BELIEFS_PAGE.write_text(sums, encoding="utf-8")
     files = [file for wanted in every for file in wanted]
-    wrong = [*misses(page), *compare_defined(page, sum(every[:FIRST_LISTS], []))]
+    wrong = [*misses(PAGE.read_text(encoding="utf-8"))]
+    wrong += misses_sums(BELIEFS_PAGE.read_text(encoding="utf-8"), first_files)
     wrong += [line for file in files for line in uncommented(file)]
     wrong += defined_twice(files)
     for line in wrong:

@@ -1,5 +1,5 @@
 #!/usr/bin/env bash
-# Compares the lists of docs/reading.md with the definitions that the contracts rest on.
+# Compares the lists of docs/definitions.md, and their sums on docs/reading.md, with the definitions that the contracts rest on.
 #
 #   tests/pages/reading.sh [--fix | llvm | rattle | PROGRAM]
 #

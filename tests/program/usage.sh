@@ -12,8 +12,8 @@ line version "inrc2pb $(sed -n 's/^## //p' CHANGELOG.md | head -n 1)"
 declare -A line_of_page=(
     [files]='^## The files, slot by slot$' ['files of the week']='^## The files, slot by slot$' [roster]='^## The files, slot by slot$'
     [model]='^## The OPB text$' [answer]='^## Answers of solvers$'
-    ['solution file']='^| solution file | ' [report]='^| report | ' [faults]='^| fault | text | status |$'
-    ['exit statuses']='^| fault | text | status |$'
+    ['solution file']='^| solution file | ' [report]='^| report | ' [faults]='^| fault | text | status |'
+    ['exit statuses']='^| fault | text | status |'
 )
 declare -A line_of_manual=(
     [files]='^\.It scenario$' ['files of the week']='^\.It week$' [roster]='^\.It solution$'

@@ -99,7 +99,7 @@ class SolverRun:
                 if verdict.kind is Kind.CONFIRMED
                 else f", says {name}, which is not proved"
             )
-            advice = f"{page('ward_reference.md')} shows how to find out why"
+            advice = f"{page('commands.md')} shows how to find out why"
             raise NoneExists(NO_ROSTER, f"no roster keeps the hard rules{by}: {advice}")
         elif (
             answer.status == OPTIMUM and verdict.kind is Kind.OPEN and answer.objective is not None

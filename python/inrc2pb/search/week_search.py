@@ -152,7 +152,7 @@ class WeekSearch:
         if self._best.penalty is not None:
             return
         held = f" and has the rows of {self._files.fix}" if self._files.fix else ""
-        why = f"{page('ward_reference.md')} shows how to find out why"
+        why = f"{page('commands.md')} shows how to find out why"
         if run.without_row:
             raise NoneExists(
                 NO_ROSTER,

@@ -158,7 +158,7 @@ _PROGRAM_ADVICE = (
     (
         "UNSATISFIABLE",
         (
-            f"the minimum numbers cannot all be met; {page('ward_reference.md')} shows how to find"
+            f"the minimum numbers cannot all be met; {page('commands.md')} shows how to find"
             " out why"
         ),
     ),

@@ -72,7 +72,7 @@ class Certified(unittest.TestCase):
         )
 
     def test_the_page_has_the_optima_beside_the_relaxations(self):
-        page = certify.PAGE.read_text()
+        page = (CERTIFIED / "README.md").read_text()
         head, _, relaxed, best = page[page.index("| | `first-12`") :].splitlines()[:4]
         names, values, optima = (
             [cell.strip(" `") for cell in line.split("|")[2:-1]] for line in (head, relaxed, best)
