@@ -72,7 +72,7 @@ class Words(KeptTest):
         self.does("swap", "Grace", "Fri", "Finn", "--do")
         refused = ("swap", "Chen", "Wed", "2", "Grace")
         self.assert_shown("You decide one day yourself", off, (*off, "--do"), refused)
-        self.assert_shown("You typed the wrong thing", ("undo",))
+        self.assert_shown("You did the wrong thing", ("undo",))
 
     def test_the_end_of_a_week(self):
         self.does("page")
