@@ -1,38 +1,45 @@
 #!/usr/bin/env python3
 """Draws the pictures of the pages anew.
 
-    bench/pictures.py [wall | page | sheet | search | tree]
+    bench/pictures.py [ward | search | tree]
 
-`wall` is docs/wall.png, the two weeks of examples/ward as they hang on the wall, and `page` is
-docs/page.png, the local page of the ward that `inrc2pb-plan FOLDER new` makes, both by headless
-Chromium. `sheet` is docs/sheet.png, the sheet plan of that ward, by LibreOffice and pdftoppm.
-`search` is docs/search.svg, the penalty and the bound during a search for four weeks of 12 nurses,
-and takes two minutes. `tree` is docs/tree.svg, the cases of the month's certificate. All need the
-programs that `make` leaves in out.
+`ward` is the pictures of the ward of docs/your_ward.md, by headless Chromium: docs/sheet.png and
+docs/sheets.png, its spreadsheet; docs/wall.png, its first plan as it hangs on the wall; and
+docs/page.png, its page after an illness is reported. `search` is docs/search.svg, the penalty and the
+bound during a search for four weeks of 12 nurses. `tree` is docs/tree.svg, the cases of the month's
+certificate. All need the programs that `make` leaves in out.
 """
 
+import datetime
 import os
 import re
 import subprocess
 import sys
 import tempfile
+from collections.abc import Callable, Sequence
 from math import log10
 from pathlib import Path
-from typing import Callable, Dict, List, NamedTuple, Sequence
+from typing import NamedTuple
 
 ROOT = Path(__file__).resolve().parents[1]
-sys.path.insert(0, str(ROOT / "bench"))
+sys.path[:0] = [str(ROOT / "bench"), str(ROOT / "python")]
 
 import make_weeks  # noqa: E402
-from sheet_picture import draw_sheet  # noqa: E402
+from sheet_picture import Sheet, page_of_sheets  # noqa: E402
 from tree_picture import tree_picture  # noqa: E402
 
-WALL = ROOT / "docs" / "wall.png"
-PAGE = ROOT / "docs" / "page.png"
-SHEET = ROOT / "docs" / "sheet.png"
-SEARCH = ROOT / "docs" / "search.svg"
-TREE = ROOT / "docs" / "tree.svg"
-MOST_BYTES = 120_000
+from inrc2pb.commands.ward import new  # noqa: E402
+
+DOCS = ROOT / "docs"
+SEARCH = DOCS / "search.svg"
+TREE = DOCS / "tree.svg"
+# The day on which the ward of the page is made, and the day and the nurse that are clicked.
+MADE = datetime.date(2026, 11, 28)
+CLICKED = "nurse=Dilek&day=2"
+SECONDS = 20
+# The windows of the pictures.
+WINDOWS = {"sheet": "1240,215", "sheets": "890,590", "wall": "1230,365", "page": "1366,800"}
+MOST_BYTES = 180_000
 STEP = 100
 PROGRESS = re.compile(r" *([\d.]+) s  penalty (\d+)(?:  bound (\d+))?")
 PROVED = re.compile(r"lower bound (\d+)")
@@ -60,7 +67,7 @@ class Value(NamedTuple):
     points: int
 
 
-def programs() -> Dict[str, str]:
+def programs() -> dict[str, str]:
     """The environment in which commands are those of this clone."""
     return {
         **os.environ,
@@ -81,15 +88,16 @@ def run(*words: str, folder: str = ".") -> "subprocess.CompletedProcess[str]":
     )
 
 
-def shoot(address: str, picture: Path, size: str) -> None:
-    """Draws a page in a window of this size."""
+def shoot(address: str, name: str) -> None:
+    """Draws the page of an address as the picture with this name."""
+    picture = DOCS / f"{name}.png"
     run(
         "chromium",
         "--headless",
         "--no-sandbox",
         "--hide-scrollbars",
         "--force-device-scale-factor=1.25",
-        f"--window-size={size}",
+        f"--window-size={WINDOWS[name]}",
         f"--screenshot={picture}",
         address,
     )
@@ -97,7 +105,7 @@ def shoot(address: str, picture: Path, size: str) -> None:
         sys.exit(f"pictures.py: {picture} has more than {MOST_BYTES} bytes")
 
 
-def files(folder: Path, weeks: int, histories: int = 1) -> List[str]:
+def files(folder: Path, weeks: int, histories: int = 1) -> list[str]:
     """The options that name the files of the first weeks of a ward."""
     return [
         "--sce",
@@ -109,51 +117,26 @@ def files(folder: Path, weeks: int, histories: int = 1) -> List[str]:
     ]
 
 
-def draw_wall() -> None:
-    """Draws the page for the wall."""
-    ward = ROOT / "examples" / "ward"
+def draw_ward() -> None:
+    """Draws the spreadsheet, the wall and the page of a ward."""
     with tempfile.TemporaryDirectory() as folder:
-        second = f"{folder}/roster-1.txt"
-        page = f"{folder}/wall.html"
-        week = [
-            "--sce",
-            str(ward / "ward.txt"),
-            "--his",
-            str(ward / "history-1.txt"),
-            "--week",
-            str(ward / "week-1.txt"),
-        ]
-        run(
-            "inrc2pb",
-            "decode",
-            *week,
-            "--answer",
-            str(ward / "answers" / "clasp-ward-1.txt"),
-            "--sol",
-            second,
-        )
-        rosters = ["--roster", str(ward / "roster-0.txt"), second]
-        run(
-            "inrc2pb-roster",
-            "show",
-            *files(ward, 2, 2),
-            *rosters,
-            "--monday",
-            "2026-11-30",
-            "--html",
-            "--only-table",
-            "--out",
-            page,
-        )
-        shoot(page, WALL, "1160,350")
-
-
-def draw_page() -> None:
-    """Draws the local page after a first plan, with what can be done with the first Friday of a
-    nurse."""
-    with tempfile.TemporaryDirectory() as folder:
-        for verb in (["new"], ["plan", "--time", "10"]):
+        ward = Path(folder, "my ward")
+        new(ward, MADE)
+        for name, sheets in {
+            "sheet": [Sheet("plan", 11)],
+            "sheets": [
+                Sheet("shifts", 5),
+                Sheet("contracts", 9),
+                Sheet("nurses", 12),
+                Sheet("needs", 10),
+            ],
+        }.items():
+            page = Path(folder, f"{name}.html")
+            page.write_text(page_of_sheets(ward / "ward.ods", sheets), encoding="utf-8")
+            shoot(page.as_uri(), name)
+        for verb in (["plan", "--time", str(SECONDS)], ["page"]):
             run("inrc2pb-plan", "my ward", *verb, folder=folder)
+        shoot((ward / "wall.html").as_uri(), "wall")
         with subprocess.Popen(
             ["inrc2pb-plan", "my ward", "serve"],
             cwd=folder,
@@ -162,19 +145,19 @@ def draw_page() -> None:
             text=True,
         ) as server:
             assert server.stdout
-            told = next(line for line in server.stdout if "http://" in line)
-            shoot(f"{told.split()[-1]}?nurse=Grace&day=4#cell", PAGE, "1060,540")
+            address = next(line for line in server.stdout if "http://" in line).split()[-1]
+            shoot(f"{address}?{CLICKED}", "page")
             server.terminate()
 
 
-def searched() -> Dict[str, List[Value]]:
+def searched() -> dict[str, list[Value]]:
     """The penalty and the bound of a search, as they become known."""
     with tempfile.TemporaryDirectory() as folder:
         make_weeks.period(Path(folder), "ward", 12, 4, 100, 501)
         ended = run(
             "inrc2pb-solve", *files(Path(folder) / "ward", 4), "--out", folder, "--time", "30"
         )
-    known: Dict[str, List[Value]] = {"penalty": [], "bound": []}
+    known: dict[str, list[Value]] = {"penalty": [], "bound": []}
     for second, penalty, bound in PROGRESS.findall(ended.stderr):
         known["penalty"].append(Value(float(second), int(penalty)))
         if bound:
@@ -196,9 +179,9 @@ def up(points: int, low: int, high: int) -> float:
     return BOTTOM - (points - low) / (high - low) * (BOTTOM - TOP)
 
 
-def curve(name: str, values: Sequence[Value], last: float, low: int, high: int) -> List[str]:
+def curve(name: str, values: Sequence[Value], last: float, low: int, high: int) -> list[str]:
     """A line that stays level until something better is known, and its name."""
-    places: List[str] = []
+    places: list[str] = []
     for before, value in zip((None, *values), values):
         column = across(value.second, last)
         if before:
@@ -216,7 +199,7 @@ def curve(name: str, values: Sequence[Value], last: float, low: int, high: int) 
     ]
 
 
-def search_picture(known: Dict[str, List[Value]]) -> str:
+def search_picture(known: dict[str, list[Value]]) -> str:
     """The picture of a search."""
     last = max(value.second for values in known.values() for value in values) * 1.1
     points = [value.points for values in known.values() for value in values]
@@ -255,13 +238,6 @@ def search_picture(known: Dict[str, List[Value]]) -> str:
     return "\n".join([*parts, "</svg>"]) + "\n"
 
 
-def draw_plan_sheet() -> None:
-    """Draws the sheet plan of the ward that `new` makes, with its first two weeks."""
-    with tempfile.TemporaryDirectory() as folder:
-        run("inrc2pb-plan", "my ward", "new", folder=folder)
-        draw_sheet(Path(folder, "my ward", "ward.ods"), "plan", 15, SHEET)
-
-
 def draw_tree() -> None:
     """Draws the cases of the month's certificate."""
     month = ROOT / "examples" / "month"
@@ -275,10 +251,8 @@ def draw_tree() -> None:
 
 
 def main(words: Sequence[str]) -> int:
-    draw: Dict[str, Callable[[], object]] = {
-        "wall": draw_wall,
-        "page": draw_page,
-        "sheet": draw_plan_sheet,
+    draw: dict[str, Callable[[], object]] = {
+        "ward": draw_ward,
         "search": lambda: SEARCH.write_text(search_picture(searched())),
         "tree": draw_tree,
     }

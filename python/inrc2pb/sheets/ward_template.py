@@ -99,10 +99,12 @@ _SPACES = " ".join(
     f'"urn:oasis:names:tc:opendocument:xmlns:{name}:1.0"'
     for name in _NAMES
 )
-# How a cell shows a date: as 2026-11-30.
+# How a cell shows a date, as Mon 2026-11-30, and a column that is wide enough for it.
 _DATE_STYLE = (
-    '<number:date-style style:name="days"><number:year'
-    ' number:style="long"/><number:text>-</number:text><number:month'
+    '<style:style style:name="wide" style:family="table-column"><style:table-column-properties'
+    ' style:column-width="2.9cm"/></style:style>'
+    '<number:date-style style:name="days"><number:day-of-week/><number:text> </number:text>'
+    '<number:year number:style="long"/><number:text>-</number:text><number:month'
     ' number:style="long"/><number:text>-</number:text><number:day'
     ' number:style="long"/></number:date-style><style:style style:name="day"'
     ' style:family="table-cell" style:data-style-name="days"/>'
@@ -171,7 +173,11 @@ def write_template(path: Path, monday: datetime.date) -> None:
 
 
 def _sheet(name: str, rows: Rows) -> str:
-    return f"<table:table table:name={quoteattr(name)}>{''.join(map(_row, rows))}</table:table>"
+    columns = f'<table:table-column table:number-columns-repeated="{len(rows[0])}"/>'
+    if any(isinstance(cell, datetime.date) for cell in rows[0]):
+        columns = columns.replace("table:number", 'table:style-name="wide" table:number')
+    cells = "".join(map(_row, rows))
+    return f"<table:table table:name={quoteattr(name)}>{columns}{cells}</table:table>"
 
 
 def _row(cells: Sequence[object]) -> str:
@@ -183,7 +189,8 @@ def _cell(value: object) -> str:
         return "<table:table-cell/>"
     if isinstance(value, datetime.date):
         date = f'table:style-name="day" office:value-type="date" office:date-value="{value}"'
-        return f"<table:table-cell {date}><text:p>{value}</text:p></table:table-cell>"
+        shown = f"{DAYS[value.weekday()]} {value}"
+        return f"<table:table-cell {date}><text:p>{shown}</text:p></table:table-cell>"
     kind = (
         f'office:value-type="float" office:value="{value}"'
         if isinstance(value, int)
