@@ -64,8 +64,8 @@ staff() {
     }'
 }
 
-# Cells, unit variable and slacks: of S1 7 * 256 * 9998; a nurse's 16 * 28 + 1 of runs on shift types, 29 each of work and
-# of days off, 2 of S5, 14 of S6, 2 of S7.
+# Cells, unit variable and slacks: of S1 7 * 256 * 9998; a nurse's 16 * 28 + 1 of S2 on shift types, 29 of S2 at work and of
+# S3, 2 of S5, 14 of S6, 2 of S7.
 has_model 'the longest model' '* #variable= 20233417 #constraint= 2091585' 2091586 "${longest[@]}"
 # Each nurse has all skills (16000 rows fewer), and nobody worked on Sunday (18 rows and 2 slacks fewer for each nurse).
 has_model 'a model with a roster' '* #variable= 20231417 #constraint= 2057585' 2057586 "${staffed[@]}"

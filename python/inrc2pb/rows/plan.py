@@ -158,7 +158,7 @@ class Plan:
 
     @property
     def missing_cost(self) -> int:
-        """What a nurse below an optimal number costs, in points."""
+        """What a nurse below an optimal number costs, in points (S1)."""
         return MISSING_NURSE if self.charging else 0
 
     @property
@@ -276,8 +276,8 @@ class Plan:
         return found
 
     def wishes(self, nurse: str, requests: Iterable[Request]) -> Dict[int, List[int]]:
-        """What requests, absences and held rows make of each choice of a nurse, in thousandths, on
-        the days that have any."""
+        """What requests (S4), absences and held rows make of each choice of a nurse, in
+        thousandths, on the days that have any."""
         shifts = {shift: number for number, shift in enumerate(self.scenario.shift_types, 1)}
         skills = self.scenario.nurses[nurse].skills
         found: Dict[int, List[int]] = {}

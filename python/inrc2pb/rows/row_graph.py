@@ -32,8 +32,8 @@ Check = Callable[[], None]
 
 
 class Totals(NamedTuple):
-    """What each further assignment and each further weekend of a nurse costs, in points, one after
-    another."""
+    """What each further assignment (S6) and each further weekend (S7) of a nurse costs, in points,
+    one after another."""
 
     works: Tuple[int, ...]
     weekends: Tuple[int, ...]
