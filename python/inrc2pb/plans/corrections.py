@@ -110,6 +110,18 @@ def _correct(old: WardPlan, wording: Wording, worked: _Worked, place: NurseDay) 
             worked.away[place] = BACK
 
 
+def next_period_lines(before: WardPlan | None, now: WardPlan | None) -> list[str]:
+    """What the plan of the next period costs now, if that is another number, and what it breaks."""
+    if not (before and now and now.is_planned):
+        return []
+    said = follow_lines(before, now)
+    older, points = before.view().penalty, now.view().penalty
+    if points is not None and points != older:
+        was = "" if older is None else f" instead of {older}"
+        said.append(f"the period from {now.days.text(0)} costs {points} points then{was}")
+    return said
+
+
 def follow_lines(before: WardPlan, now: WardPlan) -> list[str]:
     """What follows in the weeks that are not over: the rules that the plan breaks now, and shifts
     that are too many."""

@@ -9,7 +9,7 @@ from ..sheets.written_days import BACK
 from ..shown.changes import Charged, charge_lines, sum_text
 from ..shown.why import in_words as charge_text
 from ..week.faults import Misuse
-from ..week.records import DAYS, WEEK_DAYS, NurseDay
+from ..week.records import DAYS, WEEK_DAYS, Cell, NurseDay
 from ..week.words import OFF, plural, readable
 from .changes import shift_changes
 from .facts import beside_days_away
@@ -66,6 +66,9 @@ def fault_text(plan: WardPlan, fault: Fault) -> str:
         return f"{', '.join(above)}, and this limit holds"
     if fault.kind is Obstacle.BESIDE and fault.beside:
         return beside_text(plan.days, fault.beside)
+    then = plan.ward.then(nurse, fault.day, fault.what) if fault.kind is Obstacle.NEVER else ""
+    if then:
+        return border_text(plan, nurse, fault.what, then)
     if fault.promise:
         return promise_fault_text(plan, fault.promise)
     away = {
@@ -87,6 +90,44 @@ def fault_text(plan: WardPlan, fault: Fault) -> str:
         ),
     }
     return readable(texts[fault.kind])
+
+
+def border_text(plan: WardPlan, nurse: str, shift: str, then: str) -> str:
+    """That a shift on the last day may not come before one of the next period, and how that gives
+    this one up."""
+    days = plan.days.next()._replace(weeks=1)
+    name = readable(nurse)
+    return readable(
+        f"{name} may not work {shift} on {plan.days.text(plan.days.total - 1)} before {then} on"
+        f" {days.text(0)}, in the plan of the next period: set {name} {days.head(0)} {OFF} gives"
+        " that up"
+    )
+
+
+def given_up(plan: WardPlan) -> tuple[str, ...]:
+    """What the next period would have to give up: for shifts on the last day that may not come
+    before its own, and for those that are open since nobody else could have them."""
+    last = plan.days.total - 1
+    swaps = Swaps(plan)
+    opened = [one for one in plan.state.opened if one.day == last]
+    could = [
+        Cell(nurse, last, one.shift, one.skill) for one in opened for nurse in plan.scenario.nurses
+    ]
+    cells = [
+        cell
+        for cell in (*plan.cells, *could)
+        if plan.ward.then(*cell[:3])
+        and (
+            cell in plan.cells
+            or all(
+                fault.kind is Obstacle.NEVER
+                for fault in swaps.day_faults(NurseDay(cell.nurse, last), cell)
+            )
+        )
+    ]
+    return tuple(
+        border_text(plan, cell.nurse, cell.shift, plan.ward.then(*cell[:3])) for cell in cells
+    )
 
 
 def promise_fault_text(plan: WardPlan, promise: SetDay) -> str:

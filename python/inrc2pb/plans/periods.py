@@ -14,7 +14,7 @@ from typing import Dict, Iterable, Iterator, List, NamedTuple, Optional, Sequenc
 from ..judging.leave import Counted
 from ..judging.next_history import next_history
 from ..sheets.open_shifts import lowered
-from ..sheets.ward import Ward
+from ..sheets.ward import Border, Ward
 from ..sheets.written_days import BACK, DayWord
 from ..week.dates import PlanDays
 from ..week.facts import Choice, Claim, read_facts, read_reasons
@@ -99,14 +99,14 @@ def end_of(period: Period, state: Optional[State] = None) -> History:
     return past
 
 
-def border_of(ward: Ward, after: State) -> Tuple[Claim, ...]:
+def border_of(ward: Ward, after: State) -> Tuple[Border, ...]:
     """The shifts that nurses may not have on the last day of a period, since what they have on the
     first day of the next one may not follow them."""
     scenario = ward.scenario
     week = ward.days.weeks
     first = {cell.nurse: cell.shift for cell in after.cells if cell.day == 0}
     return tuple(
-        Claim(Choice(week, nurse, WEEK_DAYS - 1, shift), holds=False)
+        Border(Claim(Choice(week, nurse, WEEK_DAYS - 1, shift), holds=False), nurse, shift, then)
         for nurse, then in first.items()
         for shift in scenario.shift_types
         if nurse in scenario.nurses and scenario.forbids(shift, then)

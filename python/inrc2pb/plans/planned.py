@@ -10,6 +10,7 @@ from ..week.records import WEEK_DAYS
 from ..week.words import plural, readable
 from .absence import not_written_text
 from .changes import shift_changes
+from .corrections import next_period_lines
 from .facts import Agreement, broken_agreements, unkept, while_away
 from .left_open import all_open_lines, open_from
 from .offers import price_lines
@@ -63,6 +64,10 @@ class Planned(Outcome):
     # Whether the user looks at it before it is written.
     is_look: bool = False
     ended_by: int | None = None
+    # The plan of the next period, before and after this one; None if there is none.
+    following: tuple[WardPlan | None, WardPlan | None] = (None, None)
+    # What the next period would have to give up, so that nothing else has to be.
+    gives_up: tuple[str, ...] = ()
 
     def lines(self, write: str = "") -> list[str]:
         """What a new plan does not keep, changes and costs, its bound, and whether it is
@@ -86,6 +91,7 @@ class Planned(Outcome):
             *wish_lines(self.before, new),
             *cost_lines(self.penalties, new.days),
         ]
+        said += [*next_period_lines(*self.following), *self.gives_up]
         said += price_lines(self.before, new) if self.before and self.asked.is_firm else []
         said += evenness_lines(new)
         if not missing and not self.asked.few_changes:

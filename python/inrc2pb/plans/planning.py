@@ -16,6 +16,7 @@ from .facts import newly_exceeded, unkept, while_away
 from .left_open import filled, left_open, open_from, with_fewer_open, with_open, without_away
 from .needless_changes import without_needless_changes
 from .planned import Cause, NoPlan, Planned
+from .offers import given_up
 from .searching import Asked, Found, Keep, search_plan, shortages
 from .store import PlanStore, penalties
 from .verb import Event, Outcome, Status, saved
@@ -105,6 +106,8 @@ def searched(
             cause=cause,
             verb=verb,
             status=status,
+            following=store.following(new),
+            gives_up=given_up(new),
         )
         if not asked.do and newly_exceeded(seen, new):
             return replace(planned, status=Status.NOT_KEPT)

@@ -12,6 +12,7 @@ from typing import (
     Iterator,
     List,
     Mapping,
+    NamedTuple,
     Optional,
     Sequence,
     Tuple,
@@ -71,6 +72,16 @@ from .week_rows import WeekRow, week_rows
 from .written_days import DayWord, lost_shifts, with_written
 
 
+class Border(NamedTuple):
+    """A shift that a nurse may not have on the last day, and the one of the first day of the next
+    period, as it is planned, that may not follow it."""
+
+    claim: Claim
+    nurse: str
+    shift: str
+    then: str
+
+
 @dataclass(frozen=True)
 class Ward:
     """What the spreadsheet says now, with the days away that verbs have written."""
@@ -101,7 +112,7 @@ class Ward:
     was: Sequence[Renamed]
     book: Book
     # The shifts that nurses may not have at the end, since the next period hangs on the wall.
-    border: Tuple[Claim, ...] = ()
+    border: Tuple[Border, ...] = ()
     # The shift types of which nobody has more days in a row than their maximum.
     kept_runs: FrozenSet[str] = frozenset()
     # The shifts that are left open, without which the minimum numbers of files are.
@@ -114,10 +125,17 @@ class Ward:
         )
         return ward.with_border(self.border)
 
-    def with_border(self, border: Tuple[Claim, ...]) -> "Ward":
+    def with_border(self, border: Tuple[Border, ...]) -> "Ward":
         """The same with these shifts that nurses may not have at the end."""
-        claims = (claim for claim in self.claims if claim not in self.border)
-        return replace(self, claims=(*claims, *border), border=border)
+        older, new = ([one.claim for one in ones] for ones in (self.border, border))
+        claims = (claim for claim in self.claims if claim not in older)
+        return replace(self, claims=(*claims, *new), border=border)
+
+    def then(self, nurse: str, day: int, shift: str) -> str:
+        """The shift of the next period, on its first day, because of which a nurse may not have
+        this one, if it is so."""
+        found = [one.then for one in self.border if (one.nurse, one.shift) == (nurse, shift)]
+        return found[0] if found and day == self.days.total - 1 else ""
 
     def with_open(self, opened: Sequence[OpenShift]) -> "Ward":
         """The same with these shifts left open."""

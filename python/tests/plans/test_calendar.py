@@ -1,6 +1,7 @@
 """Tests of a next period that is planned before this one ends."""
 
 import datetime
+import re
 import shutil
 import unittest
 
@@ -14,7 +15,7 @@ from inrc2pb.plans.store import plan_texts
 from inrc2pb.plans.verb import Event
 from inrc2pb.plans.ward_folder import WardFolder
 from inrc2pb.week.dates import PlanDays
-from inrc2pb.week.records import WEEK_DAYS
+from inrc2pb.week.records import WEEK_DAYS, Cell
 
 NEXT = MONDAY + datetime.timedelta(days=2 * WEEK_DAYS)
 NEXT_FOLDER = f"from-{NEXT}"
@@ -142,7 +143,46 @@ class NextBeforeTheEnd(CalendarTest):
         self.assertNotIn("Day", held)
         status, printed, _ = run("plan", self.ward, "set", "Bruno", "13.12.", "Night", "--do")
         self.assertEqual(status, 6, printed)
-        self.assertIn("not possible", printed)
+        self.assertIn(
+            "not possible: Bruno may not work Night on Sun 13 Dec before Day on Mon 14 Dec, in the"
+            " plan of the next period: set Bruno 2026-12-14 off gives that up\n",
+            printed,
+        )
+
+    def test_what_the_next_period_costs_then(self):
+        self.plan_january()
+        # Amara has Day on Sunday and on the next three days.
+        printed = self.does("set", "Amara", "13.12.", "off", "--time", "0", "--open")
+        before, after = (
+            int(number)
+            for number in re.search(
+                "the period from Mon 14 Dec costs ([0-9]+) points then instead of ([0-9]+)", printed
+            ).groups()
+        )
+        self.assertNotEqual(before, after)
+        points = self.january().view().penalty
+        self.assertEqual(points, after)
+        self.does("set", "Amara", "13.12.", "off", "--time", "0", "--open", "--do")
+        self.assertEqual(self.january().view().penalty, before)
+
+    @unittest.skipUnless(HAS_CBC, "cbc is not installed")
+    def test_an_illness_on_the_last_day_says_what_the_next_period_would_give_up(self):
+        # Chen has Night on Sunday, and all others who may work it have a shift on Monday.
+        days = [Cell(nurse, 0, "Day", "Nurse") for nurse in ("Chen", "Dilek", "Ewa")]
+        kept = [
+            cell
+            for cell in TWO_WEEKS
+            if (cell.nurse, cell.day) not in (("Dilek", 0), ("Chen", 0), ("Ewa", 0), ("Ewa", 1))
+        ]
+        self.rows["needs"][4][3] = 0
+        self.write()
+        self.plan_january([*kept, *days])
+        self.does("page")
+        printed = self.does("ill", "Chen", "13.12.")
+        self.assertEqual([one.word for one in read_state(self.last()).absences], ["ill"])
+        self.assertIn("Night Nurse, Sun 13 Dec: 1 nurse missing\n", printed)
+        self.assertIn("set Ewa 2026-12-14 off gives that up\n", printed)
+        self.assertNotIn("set Chen", printed)
 
     def test_the_end_of_december(self):
         self.plan_january()

@@ -8,6 +8,7 @@ from ...sheets.written_days import BACK
 from ...week.faults import FileFault, Misuse, ProgramFault, Stopped
 from ...week.records import Cell, NurseDay
 from ...week.words import OFF, readable
+from ..corrections import next_period_lines
 from ..left_open import left_open, new_open_lines, with_fewer_open
 from ..nurse_weeks import Fault
 from ..offers import MOST_OFFERS, changed_lines, offer_text, reason_text, refused_lines
@@ -45,6 +46,8 @@ class DaySet(Outcome):
     may_be: bool = False
     # Whether a search has found no plan with it.
     has_searched: bool = False
+    # The plan of the next period, before and after this; None if there is none.
+    following: tuple[WardPlan | None, WardPlan | None] = (None, None)
 
     @property
     def place(self) -> NurseDay:
@@ -99,7 +102,8 @@ class DaySet(Outcome):
         else:
             *older, promise = self.heads()
             opened = new_open_lines(self.old, self.new)
-            said = [*older, *changed_lines(self.old, self.new), *opened, promise]
+            then = next_period_lines(*self.following)
+            said = [*older, *changed_lines(self.old, self.new), *opened, *then, promise]
         if not self.is_written:
             instead = [] if self.takes_back else self._instead()
             return [*said, f"nothing is written: {write}", *instead] if write else said
@@ -224,7 +228,8 @@ def _no_promise(old: WardPlan, place: NurseDay) -> str:
 
 
 def _asked(store: PlanStore, event: Event) -> DaySet:
-    return set_day(store.fitting(), event)
+    day_set = set_day(store.fitting(), event)
+    return replace(day_set, following=store.following(day_set.new))
 
 
 def _done(store: PlanStore, event: Event) -> Outcome:

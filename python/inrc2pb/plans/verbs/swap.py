@@ -6,6 +6,7 @@ from typing import NamedTuple, Sequence
 from ...week.faults import FileFault, Misuse
 from ...week.records import Cell, NurseDay
 from ...week.words import joined, readable
+from ..corrections import next_period_lines
 from ..nurse_weeks import Fault
 from ..offers import Offers, changed_lines, offers_of, refused_lines
 from ..plan_files import read_state
@@ -29,6 +30,8 @@ class Swapped(Outcome):
     takes_back: bool = False
     # Who else could take the first shift.
     offers: Offers | None = None
+    # The plan of the next period, before and after this; None if there is none.
+    following: tuple[WardPlan | None, WardPlan | None] = (None, None)
 
     def question(self) -> list[str]:
         """The same."""
@@ -40,7 +43,7 @@ class Swapped(Outcome):
         offers = self.offers.lines() if self.offers else []
         if self.faults:
             return [*refused_lines(self.old, [*self.faults]), *offers]
-        said = changed_lines(self.old, self.new)
+        said = [*changed_lines(self.old, self.new), *next_period_lines(*self.following)]
         if self.takes_back:
             said.append("this takes their swap back: later plans do not keep it")
         if not self.is_written:
@@ -124,7 +127,8 @@ def _asked(store: PlanStore, event: Event) -> Offers | Swapped:
     asked = asked_swap(old, event)
     if isinstance(asked, Look):
         return offers_of(Swaps(old), *asked)
-    return judged(old, asked, _before_swap(store, old, asked), has_offers=not event.do)
+    found = judged(old, asked, _before_swap(store, old, asked), has_offers=not event.do)
+    return replace(found, following=store.following(found.new))
 
 
 def _done(store: PlanStore, event: Event) -> Offers | Swapped:
