@@ -132,7 +132,13 @@ def _evened(found: Found, asked: Asked, ends: Callable[[], bool] = lambda: False
     """The plan with nights and weekends that are shared more evenly, if the program charges as much
     for it."""
     seconds = STOPPED_EVENING if found.stopped else _evening(asked)
-    even = more_even(found.plan, asked.first, round(STEPS_A_SECOND * seconds), ends)
+    clock = Clock(seconds)
+
+    def is_over() -> bool:
+        # Who has stopped the search does not wait longer on a slow machine.
+        return ends() or found.stopped and clock.left() <= 0
+
+    even = more_even(found.plan, asked.first, round(STEPS_A_SECOND * seconds), is_over)
     return (
         even if sum(penalties(even).values()) == sum(penalties(found.plan).values()) else found.plan
     )

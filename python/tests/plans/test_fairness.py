@@ -7,7 +7,7 @@ from dataclasses import replace
 from unittest import mock
 
 from test_kept_plans import KeptTest
-from ward import HAS_CBC
+from ward import ENOUGH, HAS_CBC
 
 from inrc2pb.plans import exchanges, planning
 from inrc2pb.plans.exchanges import more_even
@@ -235,6 +235,20 @@ class Exchanges(KeptTest):
             busy = more_even(plan, 0, round(exchanges.STEPS_A_SECOND * planning.EVENING_SHARE))
         self.assertEqual(busy.cells, quiet.cells)
         self.assertNotEqual(busy.works, plan.works)
+
+    def test_who_stops_a_search_does_not_wait_for_a_slow_machine(self):
+        plan = self.read()
+
+        def slow(even, first, steps, ends):
+            limit = time.monotonic() + ENOUGH
+            while not ends() and time.monotonic() < limit:
+                time.sleep(0.01)
+            return even
+
+        began = time.monotonic()
+        with mock.patch.object(planning, "more_even", slow):
+            planning._evened(Found(plan, stopped=True), Asked(0, False, 60.0))
+        self.assertLess(time.monotonic() - began, ENOUGH)
 
     @unittest.skipUnless(HAS_CBC, "cbc is not installed")
     def test_the_verb_says_how_even_it_is(self):
