@@ -1,9 +1,10 @@
-"""Exchanges of days between nurses that cost nothing, and make nights and weekends more even.
+"""Exchanges of days between nurses that cost nothing, and make nights, weekends and bank holidays
+more even, with those that nurses had in the year before the plan.
 
 Two or three nurses exchange days in a circle: on these days each has the shifts of the next one, so
 each place keeps its number of nurses. What they are charged together stays the same, and nothing
 that holds is broken. Most exchanges that are tried are no good, so days are the bits of numbers
-here: a few steps tell how many nights and weekends an exchange leaves to each.
+here: a few steps tell how many of each an exchange leaves to whom.
 
 A search for exchanges ends after so much work, and looks at no clock, so a busy machine makes the
 same plan as a quiet one.
@@ -15,7 +16,7 @@ from typing import Callable, Iterable, Iterator, Mapping, NamedTuple
 
 from ..judging.rules import SATURDAY
 from ..week.records import WEEK_DAYS, Cell, NurseDay
-from .fairness import Share, contracts_of, evenness, shares_before
+from .fairness import Share, contracts_of, evenness, shares_between
 from .nurse_weeks import NurseWeeks, by_nurse
 from .row_costs import RowCosts, Work
 from .ward import WardPlan
@@ -57,14 +58,18 @@ class _Exchange(NamedTuple):
 
 
 def more_even(
-    plan: WardPlan, first: int, steps: int, ends: Callable[[], bool] = lambda: False
+    plan: WardPlan,
+    first: int,
+    steps: int,
+    ends: Callable[[], bool] = lambda: False,
+    before: Mapping[str, Share] = {},
 ) -> WardPlan:
     """The plan after exchanges of days from the first one on, with so many steps of work, or until
-    it `ends`, which make nights or weekends more even, and neither less. Exchanges that leave both
-    as they are come between, since they make room for others, and some that cost points which later
-    ones save again."""
+    it `ends`, which make nights, weekends or bank holidays more even, and none of them less, with
+    those that nurses had before the plan. Exchanges that leave all as they are come between, since
+    they make room for others, and some that cost points which later ones save again."""
     work = Work(steps, ends)
-    exchanges = _Exchanges(plan, first, work)
+    exchanges = _Exchanges(plan, first, work, before)
     while not (work.is_done or exchanges.is_even):
         if not exchanges.improved():
             exchanges.wander()
@@ -74,14 +79,18 @@ def more_even(
 class _Exchanges:
     """The rows of nurses, and exchanges in them, in a random order that is always the same."""
 
-    def __init__(self, plan: WardPlan, first: int, work: Work) -> None:
+    def __init__(self, plan: WardPlan, first: int, work: Work, before: Mapping[str, Share]) -> None:
         self._plan = plan
+        self._earlier = before
         self._alone = NurseWeeks(plan)
         self._work = work
         self._random = random.Random(1)
         self._costs = RowCosts(plan, work)
         self.rows: dict[str, _Row] = dict(by_nurse(plan, plan.works))
-        self._before = shares_before(plan, plan.first)
+        over = shares_between(plan, 0, plan.first, plan.ward.nights)
+        self._before = {
+            nurse: share.plus(before.get(nurse, Share())) for nurse, share in over.items()
+        }
         self._firm = {*plan.held, *plan.state.kept}
         self._days = range(max(first, plan.first), plan.days.total)
         self._spans = [
@@ -96,6 +105,7 @@ class _Exchanges:
             for nurse in group
         }
         self._saturdays = _bits(range(SATURDAY, plan.days.total, WEEK_DAYS))
+        self._holidays = _bits(plan.ward.holidays)
         self._works: dict[str, _Bits] = {}
         self._nights: dict[str, _Bits] = {}
         self._choices: dict[str, bytes] = {}
@@ -126,9 +136,10 @@ class _Exchanges:
         most."""
         if self._is_even is None:
             shared = evenness(
-                self._plan.with_cells(cell for row in self.rows.values() for cell in row.values())
+                self._plan.with_cells(cell for row in self.rows.values() for cell in row.values()),
+                self._earlier,
             )
-            spreads = (*shared.nights, *shared.weekends)
+            spreads = (*shared.nights, *shared.weekends, *shared.holidays)
             self._is_even = (
                 not self._groups
                 or not self._days
@@ -217,17 +228,22 @@ class _Exchanges:
         )
 
     def _share(self, before: Share, works: _Bits, nights: _Bits) -> Share:
-        """The nights and weekends of a nurse with these days."""
+        """What a nurse has with these days."""
         weekends = (works | works >> 1) & self._saturdays
-        return Share(before.nights + nights.bit_count(), before.weekends + weekends.bit_count())
+        return Share(
+            before.nights + nights.bit_count(),
+            before.weekends + weekends.bit_count(),
+            before.holidays + (works & self._holidays).bit_count(),
+        )
 
-    def _squares(self, exchange: _Exchange) -> tuple[int, int] | None:
-        """By how much the sums of the squares of nights and of weekends grow, of the nurses with
-        the contract of the first one; None if another one has more of either then."""
+    def _squares(self, exchange: _Exchange) -> tuple[int, int, int] | None:
+        """By how much the sums of the squares of nights, weekends and bank holidays grow, of the
+        nurses with the contract of the first one; None if another one has more of any then."""
         days = exchange.days
         group = self._group[exchange.nurses[0]]
         nights = 0
         weekends = 0
+        holidays = 0
         for nurse, giver in exchange.givers:
             works = self._works[nurse]
             at_night = self._nights[nurse]
@@ -241,17 +257,18 @@ class _Exchanges:
             if self._group[nurse] == group:
                 nights += now.nights**2 - old.nights**2
                 weekends += now.weekends**2 - old.weekends**2
-            elif now.nights > old.nights or now.weekends > old.weekends:
+                holidays += now.holidays**2 - old.holidays**2
+            elif any(more > less for more, less in zip(now, old)):
                 return None
-        return nights, weekends
+        return nights, weekends, holidays
 
     def _is_as_even(self, exchange: _Exchange) -> bool:
-        """Whether nights and weekends are no less even after an exchange."""
+        """Whether nothing is less even after an exchange."""
         squares = self._squares(exchange)
         return squares is not None and max(squares) <= 0
 
     def _is_more_even(self, exchange: _Exchange) -> bool:
-        """Whether one of both is more even, and the other no less."""
+        """Whether one of them is more even, and the others no less."""
         squares = self._squares(exchange)
         return squares is not None and max(squares) <= 0 and min(squares) < 0
 

@@ -1,9 +1,10 @@
-"""Nights and weekends: who has how many, and how evenly they are shared.
+"""Nights, weekends and bank holidays: who has how many, and how evenly they are shared.
 
-Only nurses of the same contract are compared, and only those who may work at night or on weekends.
+Only nurses of the same contract are compared, and only those who may work at night, on weekends or
+on bank holidays.
 """
 
-from typing import Iterator, Mapping, NamedTuple, Sequence
+from typing import Collection, Iterator, Mapping, NamedTuple, Sequence
 
 from ..judging.leave import whole_contract
 from ..judging.rules import SATURDAY
@@ -13,15 +14,20 @@ from .ward import WardPlan
 
 
 class Share(NamedTuple):
-    """The nights of a nurse in the period, and her weekends with work."""
+    """The nights of a nurse in some weeks, her weekends and her bank holidays with work."""
 
-    nights: int
-    weekends: int
+    nights: int = 0
+    weekends: int = 0
+    holidays: int = 0
+
+    def plus(self, other: "Share") -> "Share":
+        """Both together."""
+        return Share(*(one + more for one, more in zip(self, other)))
 
 
 class Spread(NamedTuple):
-    """The fewest and the most nights, or weekends, that nurses of a contract have who may work
-    them."""
+    """The fewest and the most nights, weekends or bank holidays that nurses of a contract have who
+    may work them."""
 
     contract: str
     fewest: int
@@ -29,37 +35,43 @@ class Spread(NamedTuple):
 
 
 class Evenness(NamedTuple):
-    """How evenly nights and weekends are shared, for each contract that several nurses have who may
-    work them."""
+    """How evenly nights, weekends and bank holidays are shared, for each contract that several
+    nurses have who may work them."""
 
     nights: tuple[Spread, ...]
     weekends: tuple[Spread, ...]
+    holidays: tuple[Spread, ...] = ()
 
 
 def shares(plan: WardPlan) -> dict[str, Share]:
-    """The nights and weekends of each nurse in the period, in weeks that are over and in those that
-    are planned."""
-    return shares_before(plan, plan.days.total)
+    """What each nurse has in the period, in weeks that are over and in those that are planned."""
+    return shares_between(plan, 0, plan.days.total, plan.ward.nights)
 
 
-def shares_before(plan: WardPlan, end: int) -> dict[str, Share]:
-    """Those before the day `end`."""
-    works = {cell.nurse_day: cell for cell in plan.state.cells if cell.day < end}
-    return {nurse: _share(plan, row) for nurse, row in by_nurse(plan, works).items()}
+def shares_between(
+    plan: WardPlan, first: int, end: int, nights: Collection[str]
+) -> dict[str, Share]:
+    """The same from a day on, before the day `end`; `nights` has the shift types of the night."""
+    works = {cell.nurse_day: cell for cell in plan.state.cells if first <= cell.day < end}
+    holidays = plan.ward.holidays
+    return {
+        nurse: Share(
+            len([day for day, cell in row.items() if cell.shift in nights]),
+            len({day // WEEK_DAYS for day in row if day % WEEK_DAYS >= SATURDAY}),
+            len([day for day in row if day in holidays]),
+        )
+        for nurse, row in by_nurse(plan, works).items()
+    }
 
 
-def _share(plan: WardPlan, row: Mapping[int, Cell]) -> Share:
-    nights = plan.days_away.nights
-    return Share(
-        len([day for day, cell in row.items() if cell.shift in nights]),
-        len({day // WEEK_DAYS for day in row if day % WEEK_DAYS >= SATURDAY}),
-    )
-
-
-def evenness(plan: WardPlan) -> Evenness:
-    """How even a plan is."""
-    by_nurse = shares(plan)
+def evenness(plan: WardPlan, before: Mapping[str, Share] = {}) -> Evenness:
+    """How even a plan is, with what nurses had before it."""
+    by_nurse = {nurse: now.plus(before.get(nurse, Share())) for nurse, now in shares(plan).items()}
     owners = contracts_of(plan)
+    holidays = {
+        name: [by_nurse[nurse].holidays for nurse in nurses if may_work_holidays(plan, nurse)]
+        for name, nurses in owners.items()
+    }
     nights = {
         name: [by_nurse[nurse].nights for nurse in nurses if may_work_nights(plan, nurse)]
         for name, nurses in owners.items()
@@ -68,7 +80,7 @@ def evenness(plan: WardPlan) -> Evenness:
         name: [by_nurse[nurse].weekends for nurse in nurses if may_work_weekends(plan, nurse)]
         for name, nurses in owners.items()
     }
-    return Evenness(_spreads(nights), _spreads(weekends))
+    return Evenness(_spreads(nights), _spreads(weekends), _spreads(holidays))
 
 
 def _spreads(numbers: Mapping[str, Sequence[int]]) -> tuple[Spread, ...]:
@@ -88,7 +100,7 @@ def contracts_of(plan: WardPlan) -> dict[str, list[str]]:
 
 def may_work_nights(plan: WardPlan, nurse: str) -> bool:
     """Whether a nurse could have a night shift on some day of the weeks that are not over."""
-    return any(place.shift in plan.days_away.nights for place in _places_of(plan, nurse))
+    return any(place.shift in plan.ward.nights for place in _places_of(plan, nurse))
 
 
 def may_work_weekends(plan: WardPlan, nurse: str) -> bool:
@@ -96,6 +108,11 @@ def may_work_weekends(plan: WardPlan, nurse: str) -> bool:
     with work."""
     on_weekend = any(place.day % WEEK_DAYS >= SATURDAY for place in _places_of(plan, nurse))
     return plan.scenario.contract_of(nurse).max_weekends > 0 and on_weekend
+
+
+def may_work_holidays(plan: WardPlan, nurse: str) -> bool:
+    """Whether a nurse could have a shift on a bank holiday of them."""
+    return any(place.day in plan.ward.holidays for place in _places_of(plan, nurse))
 
 
 def _places_of(plan: WardPlan, nurse: str) -> Iterator[Cell]:

@@ -156,7 +156,7 @@ def past_plan(period: Period, now: Ward) -> WardPlan:
         promised=frozenset(),
         counted=_counted(folder, scenario, state.start),
         times=now.times,
-        holidays=frozenset(),
+        holidays=frozenset(read_record(folder).holidays),
         week_rows=(),
         was=state.was,
         book=now.book,

@@ -42,6 +42,7 @@ _OPEN = "open shifts"
 _WAS = "was"
 # The most records that are kept: the verbs of some years.
 _KEPT_RECORDS = 1 << 14
+_HOLIDAYS = "bank holidays"
 # The most periods of a folder.
 _MOST_PERIODS = 9999
 
@@ -53,7 +54,7 @@ def roster_name(week: int) -> str:
 
 def record_text(record: Record) -> str:
     """The text of the file of a record, in which days are numbers from the first Monday on."""
-    values = {
+    values: Dict[str, Any] = {
         "verb": record.verb,
         "time": f"{record.time:%Y-%m-%d %H:%M}",
         "monday": None if record.days.monday is None else str(record.days.monday),
@@ -70,6 +71,7 @@ def record_text(record: Record) -> str:
         **({} if record.period is None else {_PERIOD: record.period}),
         **({_OPEN: [list(one) for one in record.opened]} if record.opened else {}),
         **({_WAS: [list(one) for one in record.was]} if record.was else {}),
+        **({_HOLIDAYS: [*record.holidays]} if record.holidays else {}),
     }
     lines = [
         f"  {json.dumps(name)}: {json.dumps(value, ensure_ascii=False)}"
@@ -149,11 +151,12 @@ def _record_of(values: Any) -> Record:
         _PERIOD,
         _OPEN,
         _WAS,
+        _HOLIDAYS,
     )
-    newer = {_SET, _TYPED, _PERIOD, _OPEN, _WAS}
+    newer = {_SET, _TYPED, _PERIOD, _OPEN, _WAS, _HOLIDAYS}
     if not isinstance(values, dict) or {*newer, *values} != set(names):
         raise _Changed(f"it has not the names {', '.join(names)}")
-    values = {_SET: [], _TYPED: "", _OPEN: [], _WAS: [], **values}
+    values = {_SET: [], _TYPED: "", _OPEN: [], _WAS: [], _HOLIDAYS: [], **values}
     monday = values["monday"]
     weeks = _taken(values, "weeks", _is_number_to(MAX_WEEKS))
     days = PlanDays(None if monday is None else _time(values, "monday", "%Y-%m-%d").date(), weeks)
@@ -180,6 +183,13 @@ def _record_of(values: Any) -> Record:
             for row in _rows(values, _OPEN, [is_day, _is_text, _is_text, _is_number_to(MAX_NUMBER)])
         ),
         was=tuple(Renamed(*row) for row in _rows(values, _WAS, [_is_text] * 3)),
+        holidays=tuple(
+            _taken(
+                values,
+                _HOLIDAYS,
+                lambda days: isinstance(days, list) and all(map(is_day, days)),
+            )
+        ),
     )
 
 

@@ -11,6 +11,7 @@ from ..week.words import plural, readable
 from .absence import not_written_text
 from .changes import shift_changes
 from .corrections import next_period_lines
+from .last_year import LastYear
 from .facts import Agreement, broken_agreements, unkept, while_away
 from .left_open import all_open_lines, open_from
 from .offers import price_lines
@@ -68,6 +69,8 @@ class Planned(Outcome):
     following: tuple[WardPlan | None, WardPlan | None] = (None, None)
     # What the next period would have to give up, so that nothing else has to be.
     gives_up: tuple[str, ...] = ()
+    # What nurses had in the year before it.
+    last_year: LastYear = LastYear()
 
     def lines(self, write: str = "") -> list[str]:
         """What a new plan does not keep, changes and costs, its bound, and whether it is
@@ -93,7 +96,7 @@ class Planned(Outcome):
         ]
         said += [*next_period_lines(*self.following), *self.gives_up]
         said += price_lines(self.before, new) if self.before and self.asked.is_firm else []
-        said += evenness_lines(new)
+        said += evenness_lines(new, self.last_year)
         if not missing and not self.asked.few_changes:
             said.append(bound_text(self.bound, number_of(open_from(new, new.first))))
             if new.state.is_as_planned:

@@ -12,6 +12,7 @@ from ..week.faults import ProgramFault, Stopped
 from ..week.records import WEEK_DAYS
 from .absence import Away
 from .exchanges import STEPS_A_SECOND, more_even
+from .last_year import LastYear, last_year
 from .facts import newly_exceeded, unkept, while_away
 from .left_open import filled, left_open, open_from, with_fewer_open, with_open, without_away
 from .needless_changes import without_needless_changes
@@ -81,13 +82,13 @@ def searched(
 
         if asked.few_changes and old.is_planned:
             found = found._replace(plan=without_needless_changes(old, found.plan, ends))
+        before = LastYear() if asked.few_changes else last_year(store.periods(), old)
         if not asked.few_changes:
-            found = found._replace(plan=_evened(found, asked, ends))
+            found = found._replace(plan=_evened(found, asked, ends, before))
         works = found.plan.works
-        before = old.works
         new = with_fewer_open(found.plan)
         new = new.with_state(
-            new.state.agreeing(lambda place: works.get(place) == before.get(place))
+            new.state.agreeing(lambda place: works.get(place) == old.works.get(place))
         )
         older = cause.old if cause else old
         seen = older if old.is_planned else None
@@ -108,6 +109,7 @@ def searched(
             status=status,
             following=store.following(new),
             gives_up=given_up(new),
+            last_year=before,
         )
         if not asked.do and newly_exceeded(seen, new):
             return replace(planned, status=Status.NOT_KEPT)
@@ -128,9 +130,14 @@ def say(store: PlanStore, said: Sequence[str]) -> None:
         store.means.say(line)
 
 
-def _evened(found: Found, asked: Asked, ends: Callable[[], bool] = lambda: False) -> WardPlan:
-    """The plan with nights and weekends that are shared more evenly, if the program charges as much
-    for it."""
+def _evened(
+    found: Found,
+    asked: Asked,
+    ends: Callable[[], bool] = lambda: False,
+    before: LastYear = LastYear(),
+) -> WardPlan:
+    """The plan with nights, weekends and bank holidays that are shared more evenly, if the program
+    charges as much for it."""
     seconds = STOPPED_EVENING if found.stopped else _evening(asked)
     clock = Clock(seconds)
 
@@ -138,7 +145,8 @@ def _evened(found: Found, asked: Asked, ends: Callable[[], bool] = lambda: False
         # Who has stopped the search does not wait longer on a slow machine.
         return ends() or found.stopped and clock.left() <= 0
 
-    even = more_even(found.plan, asked.first, round(STEPS_A_SECOND * seconds), is_over)
+    steps = round(STEPS_A_SECOND * seconds)
+    even = more_even(found.plan, asked.first, steps, is_over, before.shares)
     return (
         even if sum(penalties(even).values()) == sum(penalties(found.plan).values()) else found.plan
     )

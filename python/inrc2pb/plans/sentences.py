@@ -7,7 +7,7 @@ from ..judging.limits import limits_in_words, limits_way_out
 from ..sheets.week_rows import WeekRow
 from ..shown.changes import change_text, shifts_text
 from ..shown.why import in_words as charge_text
-from ..week.dates import PlanDays
+from ..week.dates import PlanDays, date_text
 from ..week.records import WEEK_DAYS, Cell, NurseDay, together
 from ..week.soft_rules import RULES
 from ..week.words import OFF, joined, plural, quoted, readable, wish_text
@@ -26,6 +26,7 @@ from .facts import (
     unkept,
 )
 from .fairness import evenness
+from .last_year import LastYear
 from .ward import WardPlan
 
 # ---- shifts, days and nurses
@@ -197,12 +198,16 @@ def broken_text(plan: WardPlan, broken: Broken) -> str:
     return f"{plan.days.week_text(broken.week)} exceeds a limit that holds: {words}"
 
 
-def evenness_lines(plan: WardPlan) -> list[str]:
-    """How evenly nights and weekends are shared among the nurses of each contract who may work
-    them."""
-    shared = evenness(plan)
+def evenness_lines(plan: WardPlan, before: LastYear = LastYear()) -> list[str]:
+    """How evenly nights, weekends and bank holidays are shared among the nurses of each contract
+    who may work them, with those of the year before the plan, and from when on they count."""
+    shared = evenness(plan, before.shares)
     said = []
-    for kind, spreads in (("nights", shared.nights), ("weekends", shared.weekends)):
+    for kind, spreads in (
+        ("nights", shared.nights),
+        ("weekends", shared.weekends),
+        ("bank holidays", shared.holidays),
+    ):
         numbers = [
             f"{readable(spread.contract)} {spread.fewest}{_to_most(spread.fewest, spread.most)}"
             for spread in spreads
@@ -211,6 +216,10 @@ def evenness_lines(plan: WardPlan) -> list[str]:
             said.append(
                 f"{kind} of each nurse who may work them, by contract: {', '.join(numbers)}"
             )
+    if said and before.shares:
+        since = before.since
+        begin = f"{date_text(since)} {since.year}" if since else "the last 52 weeks"
+        said.append(f"these numbers count from {begin} on, with what was worked before this plan")
     return said
 
 

@@ -57,6 +57,8 @@ class Record(NamedTuple):
     # The shifts that are left open, and the older names that are new ones in the plan.
     opened: Tuple[OpenShift, ...] = ()
     was: Tuple[Renamed, ...] = ()
+    # The days of bank holidays.
+    holidays: Tuple[int, ...] = ()
 
     @property
     def made(self) -> str:

@@ -183,7 +183,8 @@ class PlanStore(PlanReader):
 
 
 def plan_texts(plan: WardPlan, record: Record) -> Dict[str, str]:
-    """The files of a plan's folder."""
+    """The files of a plan's folder. Its record has the bank holidays of the ward."""
+    record = record._replace(holidays=tuple(sorted(plan.ward.holidays)))
     return {**plan.ward.texts, **state_texts(plan.state, record, plan.scenario, plan.histories)}
 
 

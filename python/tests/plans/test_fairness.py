@@ -1,12 +1,15 @@
 """Tests of nights and weekends that are shared evenly: who has how many, and exchanges that cost
 nothing."""
 
+import datetime
 import time
 import unittest
 from dataclasses import replace
 from unittest import mock
 
 from test_kept_plans import KeptTest
+from test_next_period import PeriodTest
+from test_plans import MONDAY, TWO_WEEKS
 from ward import ENOUGH, HAS_CBC
 
 from inrc2pb.plans import exchanges, planning
@@ -21,11 +24,14 @@ from inrc2pb.plans.fairness import (
     may_work_weekends,
     shares,
 )
+from inrc2pb.plans.last_year import last_year
+from inrc2pb.plans.reading import PlanReader
 from inrc2pb.plans.searching import Asked
 from inrc2pb.plans.searching import Found
 from inrc2pb.plans.sentences import beside_lines, evenness_lines
 from inrc2pb.plans.state import SetDay
 from inrc2pb.plans.store import penalties
+from inrc2pb.plans.ward_folder import WardFolder
 from inrc2pb.week.records import Cell
 
 # The steps with which the exchanges of these tests end.
@@ -75,6 +81,43 @@ class Shares(KeptTest):
             "nights of each nurse who may work them, by contract: Full 0 to 6",
             "weekends of each nurse who may work them, by contract: Full 0 to 2, Half 0 to 2",
         ])  # fmt: skip
+
+
+class LastYears(PeriodTest):
+    def test_periods_of_the_last_twelve_months_count(self):
+        # Wednesday of the first week is a bank holiday. Hana was not there.
+        self.rows["needs"].append(["2026-12-02", "Day", "Nurse", *[""] * 2, "0+1", *[""] * 4])
+        self.write()
+        self.plan_next()
+        self.end_period()
+        self.rows["nurses"].append(["Hana", "Full", "Nurse"])
+        self.write_next(MONDAY + datetime.timedelta(days=14))
+        store = PlanReader(WardFolder(self.ward))
+        plan = store.current()
+        found = last_year(store.periods(), plan)
+        self.assertEqual((found.since, found.shares["Chen"]), (MONDAY, Share(6, 2, 1)))
+        # Five nurses of her contract had eight nights, eight weekends, and four worked that day.
+        self.assertEqual(found.shares["Hana"], Share(2, 1, 1))
+        lines = evenness_lines(plan.with_cells(TWO_WEEKS), found)
+        self.assertEqual(
+            lines[-1],
+            "these numbers count from 30 Nov 2026 on, with what was worked before this plan",
+        )
+
+    def test_older_days_do_not_count(self):
+        store = PlanReader(WardFolder(self.ward))
+        plan = store.current()
+        (period,) = store.periods()
+        for weeks, first, nights in ((52, None, 6), (53, 6, 4), (54, 13, 1), (55, None, None)):
+            days = plan.days._replace(monday=MONDAY + datetime.timedelta(weeks=weeks))
+            later = replace(
+                plan, ward=replace(plan.ward, days=days), state=replace(plan.state, period=1)
+            )
+            found = last_year([period], later)
+            with self.subTest(weeks):
+                since = None if nights is None else MONDAY + datetime.timedelta(days=first or 0)
+                self.assertEqual(found.since, since)
+                self.assertEqual(found.shares["Chen"].nights if nights else None, nights)
 
 
 class NightsInARow(KeptTest):
@@ -194,6 +237,29 @@ class Exchanges(KeptTest):
         self.assertTrue(
             all(cell.skill in plan.scenario.nurses[cell.nurse].skills for cell in even.cells)
         )
+
+    def test_who_had_more_nights_last_year_has_fewer_now(self):
+        plan = self.read()
+        # Amara has had ten nights more than each other nurse of her contract.
+        even = more_even(plan, 0, STEPS, before={"Amara": Share(nights=10)})
+        nights = {nurse: share.nights for nurse, share in shares(even).items()}
+        self.assertEqual(nights["Amara"], 0)
+        self.assertGreater(sum(nights.values()), 0)
+
+    def test_who_worked_last_christmas_is_off_on_this_one(self):
+        # Friday of the second week is a bank holiday, on which Grace works the Day.
+        self.rows["needs"].append(["2026-12-11", "Day", "Nurse", *[""] * 4, "0+1", "", ""])
+        self.write()
+        plan = self.read()
+        self.assertEqual(plan.ward.holidays, {11})
+        (grace,) = [cell for cell in plan.cells if (cell.nurse, cell.day) == ("Grace", 11)]
+        even = more_even(plan, 0, STEPS, before={"Grace": Share(holidays=1)})
+        self.assertEqual(shares(even)["Grace"].holidays, 0)
+        self.assertEqual(
+            [cell[1:] for cell in even.cells if cell.day == 11].count(grace[1:]),
+            [cell[1:] for cell in plan.cells if cell.day == 11].count(grace[1:]),
+        )
+        self.assertEqual(sum(penalties(even).values()), sum(penalties(plan).values()))
 
     def test_its_work_is_limited(self):
         plan = self.read()
