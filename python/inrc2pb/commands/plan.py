@@ -161,7 +161,7 @@ def _check(given: argparse.Namespace) -> None:
             f"the folder comes first: type inrc2pb-plan {shlex.quote(given.verb)} {given.folder}"
         )
     check_verb(given.verb, _NAMES)
-    if given.do and given.verb in ("new", "check", "page", "undo", "serve", "files"):
+    if given.do and given.verb in ("new", "check", "undo", "serve", "files"):
         raise Misuse(
             f"--do is for verbs that ask before they write: leave it out with {given.verb}"
         )

@@ -43,6 +43,9 @@ _WAS = "was"
 # The most records that are kept: the verbs of some years.
 _KEPT_RECORDS = 1 << 14
 _HOLIDAYS = "bank holidays"
+_LEAST = "least points"
+# The most points of a plan.
+_MOST_POINTS = 10**9
 # The most periods of a folder.
 _MOST_PERIODS = 9999
 
@@ -72,6 +75,7 @@ def record_text(record: Record) -> str:
         **({_OPEN: [list(one) for one in record.opened]} if record.opened else {}),
         **({_WAS: [list(one) for one in record.was]} if record.was else {}),
         **({_HOLIDAYS: [*record.holidays]} if record.holidays else {}),
+        **({} if record.least is None else {_LEAST: record.least}),
     }
     lines = [
         f"  {json.dumps(name)}: {json.dumps(value, ensure_ascii=False)}"
@@ -152,8 +156,9 @@ def _record_of(values: Any) -> Record:
         _OPEN,
         _WAS,
         _HOLIDAYS,
+        _LEAST,
     )
-    newer = {_SET, _TYPED, _PERIOD, _OPEN, _WAS, _HOLIDAYS}
+    newer = {_SET, _TYPED, _PERIOD, _OPEN, _WAS, _HOLIDAYS, _LEAST}
     if not isinstance(values, dict) or {*newer, *values} != set(names):
         raise _Changed(f"it has not the names {', '.join(names)}")
     values = {_SET: [], _TYPED: "", _OPEN: [], _WAS: [], _HOLIDAYS: [], **values}
@@ -183,6 +188,7 @@ def _record_of(values: Any) -> Record:
             for row in _rows(values, _OPEN, [is_day, _is_text, _is_text, _is_number_to(MAX_NUMBER)])
         ),
         was=tuple(Renamed(*row) for row in _rows(values, _WAS, [_is_text] * 3)),
+        least=_taken(values, _LEAST, _is_number_to(_MOST_POINTS)) if _LEAST in values else None,
         holidays=tuple(
             _taken(
                 values,
@@ -260,6 +266,7 @@ def read_state(folder: Path) -> State:
         period=record.period or 0,
         opened=record.opened,
         was=record.was,
+        least=record.least,
     )
 
 

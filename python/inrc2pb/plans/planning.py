@@ -7,10 +7,12 @@ from ..programs.clock import Clock
 from ..programs.interrupts import interrupts
 from ..judging.leave import ILL
 from ..programs.program import NO_ROSTER
+from ..solvers.linear_solvers import is_installed
 from ..sheets.open_shifts import OpenShift
 from ..week.faults import ProgramFault, Stopped
 from ..week.records import WEEK_DAYS
 from .absence import Away
+from .changes import CALL_POINTS
 from .exchanges import STEPS_A_SECOND, more_even
 from .last_year import LastYear, last_year
 from .facts import newly_exceeded, unkept, while_away
@@ -19,13 +21,15 @@ from .needless_changes import without_needless_changes
 from .planned import Cause, NoPlan, Planned
 from .offers import given_up
 from .searching import Asked, Found, Keep, search_plan, shortages
-from .store import PlanStore, penalties
+from .store import PlanStore, penalties, wide_gap
 from .verb import Event, Outcome, Status, saved
 from .ward import WardPlan, for_leavers
 
 # The seconds of a search, for each week if it is a whole plan.
 WEEK_SECONDS = 20.0
 CHANGE_SECONDS = 30.0
+# How many times its usual seconds the verb plan takes while the gap of its plan is wide.
+PATIENCE = 5.0
 # The part of the seconds of a search for a plan that keeps the agreed days, since another search
 # may be needed for one that does not.
 FIRM_SHARE = 0.75
@@ -65,6 +69,7 @@ def searched(
 ) -> Outcome:
     """Searches, and writes the plan. The `cause` has the plan without what it asks for."""
     say(store, search_lines(old, asked, store.means.end))
+    asked = asked._replace(call_points=_call_points(cause.old if cause else old))
     store.means.progress.counts_changes = asked.few_changes and old.is_planned
     # A second Ctrl-C does not end it before the plan is written.
     with interrupts() as signals, signals.ending():
@@ -87,9 +92,8 @@ def searched(
             found = found._replace(plan=_evened(found, asked, ends, before))
         works = found.plan.works
         new = with_fewer_open(found.plan)
-        new = new.with_state(
-            new.state.agreeing(lambda place: works.get(place) == old.works.get(place))
-        )
+        state = new.state.agreeing(lambda place: works.get(place) == old.works.get(place))
+        new = new.with_state(replace(state, least=_least(old, found, asked)))
         older = cause.old if cause else old
         seen = older if old.is_planned else None
         if asked.is_firm and (newly_exceeded(seen, new) or while_away(new) > while_away(older)):
@@ -121,7 +125,9 @@ def searched(
 def search_lines(plan: WardPlan, asked: Asked, end: str) -> list[str]:
     """What a search begins with; `end` says how a user ends it."""
     days = plan.days.span([asked.first, plan.days.total - 1])
-    return [f"{days}, at most {asked.seconds:g} seconds in all{f'; {end}' if end else ''}"]
+    most = asked.patience * asked.seconds
+    longer = f", and {most:g} while the gap is wide" if most > asked.seconds else ""
+    return [f"{days}, at most {asked.seconds:g} seconds in all{longer}{f'; {end}' if end else ''}"]
 
 
 def say(store: PlanStore, said: Sequence[str]) -> None:
@@ -152,6 +158,21 @@ def _evened(
     )
 
 
+def _least(old: WardPlan, found: Found, asked: Asked) -> int | None:
+    """What no plan costs less than, as far as a search says so: without a bound it knows nothing
+    but 0, if a solver is there, and a plan with few changes leaves it as it was."""
+    if asked.few_changes or asked.agreed is Keep.MOST:
+        return old.state.least
+    return found.bound.bound.points if found.bound else 0 if is_installed() else None
+
+
+def _call_points(old: WardPlan) -> int:
+    """What a nurse who has to be called costs: if the gap of the plan before is wide, as much as
+    all that another plan can save, so that nobody is called to mend that plan."""
+    gap = wide_gap(old)
+    return max(CALL_POINTS, gap.points - gap.least) if gap else CALL_POINTS
+
+
 def _evening(asked: Asked) -> float:
     """The seconds in which nights and weekends are made more even: none if few shifts change."""
     return 0.0 if asked.few_changes else min(EVENING_SHARE * asked.seconds, MOST_EVENING)
@@ -161,7 +182,7 @@ def _filling(store: PlanStore, old: WardPlan, asked: Asked) -> Found:
     """The best plan, which fills the open shifts, if that is asked for and one does."""
     if not (asked.fills and open_from(old, asked.first)):
         return _opening(store, old, asked)
-    clock = Clock(asked.seconds)
+    clock = Clock(asked.patience * asked.seconds)
     first = asked._replace(seconds=FIRM_SHARE * asked.seconds)
     try:
         found = _found(store, filled(old, asked.first), first)
@@ -173,13 +194,13 @@ def _filling(store: PlanStore, old: WardPlan, asked: Asked) -> Found:
         if fault.status != NO_ROSTER:
             raise
     store.means.say(STILL_OPEN)
-    return _opening(store, old, asked._replace(seconds=clock.left()))
+    return _opening(store, old, _with_rest(asked, clock))
 
 
 def _opening(store: PlanStore, old: WardPlan, asked: Asked) -> Found:
     """The best plan; if that is asked for, one that leaves those shifts open that only nurses who
     are away could have, or nobody. If few shifts may change, these alone do then."""
-    clock = Clock(asked.seconds)
+    clock = Clock(asked.patience * asked.seconds)
     try:
         found = _found(store, old, asked)
         if not asked.opens or not while_away(found.plan):
@@ -199,7 +220,15 @@ def _opening(store: PlanStore, old: WardPlan, asked: Asked) -> Found:
     if asked.few_changes and old.is_planned:
         return Found(opened, stopped=found.stopped)
     store.means.say(LEFT_OPEN)
-    return _found(store, with_open(old, opened.state.opened), asked._replace(seconds=clock.left()))
+    return _found(store, with_open(old, opened.state.opened), _with_rest(asked, clock))
+
+
+def _with_rest(asked: Asked, clock: Clock) -> Asked:
+    """The same for a second search, by a clock for the most seconds of both."""
+    left = clock.left()
+    usual = left - (asked.patience - 1) * asked.seconds
+    seconds = min(left, max(usual, (1 - FIRM_SHARE) * asked.seconds))
+    return asked._replace(seconds=seconds, patience=max(1.0, left / seconds) if seconds else 1.0)
 
 
 def _with_shortages(store: PlanStore, old: WardPlan) -> WardPlan:
@@ -220,7 +249,7 @@ def _found(store: PlanStore, old: WardPlan, asked: Asked) -> Found:
     limits, one that keeps most of them."""
     if asked.is_firm or not (old.state.set_days if asked.agreed is Keep.NONE else old.state.kept):
         return search_plan(old, asked, store.means.progress)
-    clock = Clock(asked.seconds)
+    clock = Clock(asked.patience * asked.seconds)
     firm: Found | None = None
     try:
         first = asked._replace(seconds=FIRM_SHARE * asked.seconds)
@@ -234,7 +263,7 @@ def _found(store: PlanStore, old: WardPlan, asked: Asked) -> Found:
             raise
     store.means.say(WITHOUT_AGREED)
     store.means.progress.counts_changes = old.is_planned
-    second = asked._replace(agreed=Keep.MOST, seconds=clock.left())
+    second = _with_rest(asked, clock)._replace(agreed=Keep.MOST)
     free = search_plan(old, second, store.means.progress)
     return firm if firm and len(unkept(firm.plan)) <= len(unkept(free.plan)) else free
 

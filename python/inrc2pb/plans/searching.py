@@ -53,6 +53,10 @@ class Asked(NamedTuple):
     # Whether no plan is better than one that breaks an agreed day, or keeps less of absences and
     # limits than the plan before it.
     is_firm: bool = False
+    # A search takes up to so many times its seconds while its gap is wide.
+    patience: float = 1.0
+    # What a nurse who has to be called costs, in points.
+    call_points: int = CALL_POINTS
     # Whether open shifts are to be filled, if a plan can, and those that nobody can take are left
     # open.
     fills: bool = False
@@ -96,7 +100,7 @@ def search_plan(old: WardPlan, asked: Asked, progress: Progress) -> Found:
             files,
             beside,
             (
-                Calls(_older_rows(old), CALL_POINTS)
+                Calls(_older_rows(old), asked.call_points)
                 if asked.few_changes and old.is_planned
                 else Calls()
             ),
@@ -110,7 +114,13 @@ def search_plan(old: WardPlan, asked: Asked, progress: Progress) -> Found:
         # A search may count points that a plan has not: then its bound says nothing of plans.
         is_bounded = not asked.few_changes and asked.agreed is not Keep.MOST
         search = PeriodSearch(
-            weeks, kept.append, clock, progress, start=start, is_bounded=is_bounded
+            weeks,
+            kept.append,
+            clock,
+            progress,
+            start=start,
+            is_bounded=is_bounded,
+            patience=asked.patience,
         )
         with interrupts() as signals, signals.calling(search.interrupt):
             try:

@@ -59,6 +59,8 @@ class Record(NamedTuple):
     was: Tuple[Renamed, ...] = ()
     # The days of bank holidays.
     holidays: Tuple[int, ...] = ()
+    # What no plan costs less than, as far as the last search of all shifts has said so.
+    least: Optional[int] = None
 
     @property
     def made(self) -> str:
@@ -86,6 +88,8 @@ class State:
     was: Tuple[Renamed, ...] = ()
     # Whether the period before it is not over, so it begins as that one is planned.
     is_as_planned: bool = False
+    # What no plan costs less than, as far as the last search of all shifts has said so.
+    least: Optional[int] = None
 
     @property
     def promised(self) -> Dict[NurseDay, SetDay]:
@@ -131,6 +135,7 @@ class State:
             set_days=self.set_days,
             typed=typed,
             period=self.period,
+            least=self.least,
             opened=self.opened,
             was=self.was,
         )

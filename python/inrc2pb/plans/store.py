@@ -9,7 +9,7 @@ from typing import Callable, Dict, Iterator, List, NamedTuple, Optional, Sequenc
 
 from ..programs import clock
 from ..programs.program import WeekFiles, penalty_of
-from ..programs.progress import Progress
+from ..programs.progress import Progress, is_wide
 from ..shown.totals import Sums
 from ..week.dates import PlanDays, first_date
 from ..week.faults import FileFault, FileFaults, Misuse
@@ -186,6 +186,21 @@ def plan_texts(plan: WardPlan, record: Record) -> Dict[str, str]:
     """The files of a plan's folder. Its record has the bank holidays of the ward."""
     record = record._replace(holidays=tuple(sorted(plan.ward.holidays)))
     return {**plan.ward.texts, **state_texts(plan.state, record, plan.scenario, plan.histories)}
+
+
+class Gap(NamedTuple):
+    """What a plan costs, and what no plan costs less than."""
+
+    points: int
+    least: int
+
+
+def wide_gap(plan: WardPlan) -> Gap | None:
+    """The gap of a plan, if it is wide, and known."""
+    if plan.state.least is None or not plan.is_planned:
+        return None
+    gap = Gap(sum(penalties(plan).values()), plan.state.least)
+    return gap if is_wide(*gap) else None
 
 
 def penalties(plan: WardPlan) -> Dict[int, int]:

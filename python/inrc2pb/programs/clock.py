@@ -46,6 +46,12 @@ class Clock:
         """The seconds that are left, 0 if it was stopped."""
         return 0.0 if self.stopped else max(0.0, self.limit - time.monotonic())
 
+    def extend(self, seconds: float) -> None:
+        """It ends so many seconds later, and so does the whole."""
+        self.limit += seconds
+        if self._whole:
+            self._whole.extend(seconds)
+
     def wait_until(self, event: Callable[[], bool]) -> None:
         """Waits until it is so. Raises TimeIsOver if no time is left before."""
         while not event():
@@ -56,3 +62,34 @@ class Clock:
         """Raises TimeIsOver if no time is left."""
         if self.stopped or time.monotonic() >= self.limit:
             raise TimeIsOver
+
+
+class PatientClock(Clock):
+    """A part of a clock that goes on at its end, once, if `goes_on` says so then: for so many
+    seconds more."""
+
+    def __init__(
+        self, seconds: float, whole: Clock, more: float, goes_on: Callable[[], bool]
+    ) -> None:
+        super().__init__(seconds, whole)
+        self._more = more
+        self._goes_on = goes_on
+        self._asking = threading.Lock()
+
+    def left(self) -> float:
+        """The seconds that are left, 0 if it was stopped."""
+        self._ask()
+        return super().left()
+
+    def check(self) -> None:
+        """Raises TimeIsOver if no time is left."""
+        self._ask()
+        super().check()
+
+    def _ask(self) -> None:
+        with self._asking:
+            if self._more and not self.stopped and time.monotonic() >= self.limit:
+                more = self._more
+                self._more = 0.0
+                if self._goes_on():
+                    self.extend(more)

@@ -6,6 +6,9 @@ import sys
 import time
 from typing import Callable, TextIO
 
+# The part of a penalty, and the points, above which a gap is wide.
+WIDE_SHARE = 0.2
+WIDE_POINTS = 50
 # The seconds between two lines that only have a higher bound.
 BOUND_SECONDS = 5.0
 
@@ -67,6 +70,14 @@ class Progress:
         else:
             self._put(f"{text}\n")
 
+    def goes_on(self, seconds: float) -> None:
+        """The search goes on beyond its usual end."""
+        self.finish()
+        self._put(
+            f"{self._words()}: this gap is wide, so the search goes on, at most"
+            f" {seconds:.0f} seconds more\n"
+        )
+
     def warn(self, text: str) -> None:
         """Something that the user should know."""
         self.finish()
@@ -96,6 +107,12 @@ class WardProgress(Progress):
             return f"{self._penalty} points, those for changed shifts among them"
         least = "" if self._bound is None else f"; at least {self._bound} cannot be avoided"
         return f"{self._penalty} points{least}"
+
+
+def is_wide(penalty: int, bound: int) -> bool:
+    """Whether a gap is so wide that another plan is probably much better: more than a fifth of the
+    penalty, and more than a nurse and two wishes cost."""
+    return penalty - bound > max(WIDE_SHARE * penalty, WIDE_POINTS)
 
 
 def gap_share(penalty: int, bound: int) -> str:

@@ -168,7 +168,15 @@ class RowRun:
             if rows:
                 search.keep(rows, "fixing rows")
         if search.penalty is None or not self._is_quick:
-            self._close_gap(search, self._solver)
+            self._close_gaps(search, self._solver)
+
+    def _close_gaps(self, search: WholeSearch, solver: LinearSolver) -> None:
+        """Looks for the best roster, anew if the clock goes on at its end."""
+        while True:
+            try:
+                return self._close_gap(search, solver)
+            except TimeIsOver:
+                self._clock.check()
 
     def _try(self, step: Callable[[Clock], Found], share: float) -> Optional[Found]:
         """What the step finds in this share of the time that is left; None if it takes longer."""
@@ -250,7 +258,7 @@ class RowRun:
     ) -> None:
         """Looks for cases that show that no roster costs less than the best one, and for better
         rosters, as soon as the gap is small. If that ends the search, it ends all solvers."""
-        if not self._splits:
+        if not self._splits or self._tree:
             return
         with contextlib.suppress(SolverFault, TimeIsOver):
             clock.wait_until(lambda: self._is_narrow(search))

@@ -8,10 +8,10 @@ from pathlib import Path
 from typing import Callable, List, Optional, Sequence, Tuple
 
 from ..judging.runs import NEVER
-from ..programs.clock import Clock
+from ..programs.clock import Clock, PatientClock
 from ..programs.processes import Processes
 from ..programs.program import BROKEN_RULE, NO_ROSTER, penalty_of
-from ..programs.progress import Progress, gap_share
+from ..programs.progress import Progress, gap_share, is_wide
 from ..rows.plan import ABSENCES_KEPT, FEW_BROKEN, FREE, ONLY_ABSENCES, STRICT, Plan, Points
 from ..rows.pricing import Crews, NurseWeek
 from ..rows.row_run import RowRun
@@ -48,7 +48,8 @@ class PeriodSearch:
     has checked its rosters; `proof` is the file for the certificate of the bound, and `start` the
     plan to begin with, if any. It may break rules: then its weeks of nurses are of use. The `seed`
     begins the random choices of the search. A plan of `others` that is better is kept. Without
-    `is_bounded` no bound is proved at its end.
+    `is_bounded` no bound is proved at its end. While there is no plan, or its gap is wide, the
+    search takes up to `patience` times its time.
 
     `penalty` is that of the best plan, with the forecast of weeks that are not known; `bound` is
     what no plan costs less than.
@@ -65,6 +66,7 @@ class PeriodSearch:
         seed: int = 1,
         others: Others = lambda: None,
         is_bounded: bool = True,
+        patience: float = 1.0,
     ) -> None:
         self._weeks = weeks
         self._is_bounded = is_bounded
@@ -73,7 +75,9 @@ class PeriodSearch:
         self._progress = progress
         self._others = others
         kept = _kept(clock.left(), weeks) if is_bounded else 0.0
-        self._clock = clock.part(clock.left() - kept)
+        self._more = (patience - 1) * clock.left()
+        self._clock = PatientClock(clock.left() - kept, clock, self._more, self._goes_on)
+        self._run_now: Optional[RowRun] = None
         self._processes = Processes()
         self._bounds = Bounds(weeks.options(), weeks.scenario.name, proof, progress.warn)
         self._start = start
@@ -95,6 +99,14 @@ class PeriodSearch:
     def _beside_days_away(self) -> bool:
         """Whether plans also keep days beside days away, of which `inrc2pb` knows nothing."""
         return self._weeks.beside.asks
+
+    def _goes_on(self) -> bool:
+        """Whether the search goes on at its usual end, which is said then."""
+        bound = self._run_now.lower_bound if self._run_now else None
+        if self.penalty is not None and not is_wide(self.penalty, bound or 0):
+            return False
+        self._progress.goes_on(self._more)
+        return True
 
     def interrupt(self) -> None:
         """Ends the search now: the best plan was kept. If a proof of its bound runs already, it is
@@ -219,6 +231,7 @@ class PeriodSearch:
             splits=not self._weeks.later(),
         )
         runs.append(run)
+        self._run_now = run
         run.run()
 
     def _offered(

@@ -4,7 +4,7 @@ from dataclasses import replace
 
 from ..limits import limits_of
 from ..odd_sheet import warning_lines
-from ..planning import WEEK_SECONDS, say, searched
+from ..planning import PATIENCE, WEEK_SECONDS, say, searched
 from ..searching import Asked, Keep
 from ..store import PlanStore
 from ..verb import Event, Form, Outcome, Verb, wording_of
@@ -33,7 +33,8 @@ def _done(store: PlanStore, event: Event) -> Outcome:
     say(store, warning_lines(old, anew=store.anew(old), strangers=store.strangers(old)))
     few = old.state.published and old.is_planned and not event.free
     seconds = event.seconds or WEEK_SECONDS * len(old.weeks)
-    asked = Asked(first, few, seconds, do=event.do, fills=True)
+    patience = 1.0 if event.seconds else PATIENCE
+    asked = Asked(first, few, seconds, do=event.do, fills=True, patience=patience)
     keeping = replace(old, limits=limits_of(old.ward, old.state, first))
     return searched(
         store, event, "plan", keeping, asked._replace(agreed=Keep.NONE) if event.free else asked
