@@ -16,7 +16,7 @@ from typing import Callable, Iterable, Iterator, Mapping, NamedTuple
 
 from ..judging.rules import SATURDAY
 from ..week.records import WEEK_DAYS, Cell, NurseDay
-from .fairness import Share, contracts_of, evenness, shares_between
+from .fairness import Share, contracts_of, evenness, shares_of
 from .nurse_weeks import NurseWeeks, by_nurse
 from .row_costs import RowCosts, Work
 from .ward import WardPlan
@@ -87,7 +87,9 @@ class _Exchanges:
         self._random = random.Random(1)
         self._costs = RowCosts(plan, work)
         self.rows: dict[str, _Row] = dict(by_nurse(plan, plan.works))
-        over = shares_between(plan, 0, plan.first, plan.ward.nights)
+        over = shares_of(
+            plan, (cell for cell in plan.state.cells if cell.day < plan.first), plan.ward.holidays
+        )
         self._before = {
             nurse: share.plus(before.get(nurse, Share())) for nurse, share in over.items()
         }

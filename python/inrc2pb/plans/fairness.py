@@ -4,12 +4,11 @@ Only nurses of the same contract are compared, and only those who may work at ni
 on bank holidays.
 """
 
-from typing import Collection, Iterator, Mapping, NamedTuple, Sequence
+from typing import Collection, Iterable, Iterator, Mapping, NamedTuple, Sequence
 
 from ..judging.leave import whole_contract
 from ..judging.rules import SATURDAY
 from ..week.records import WEEK_DAYS, Cell, together
-from .nurse_weeks import by_nurse
 from .ward import WardPlan
 
 
@@ -45,22 +44,21 @@ class Evenness(NamedTuple):
 
 def shares(plan: WardPlan) -> dict[str, Share]:
     """What each nurse has in the period, in weeks that are over and in those that are planned."""
-    return shares_between(plan, 0, plan.days.total, plan.ward.nights)
+    return shares_of(plan, plan.state.cells, plan.ward.holidays)
 
 
-def shares_between(
-    plan: WardPlan, first: int, end: int, nights: Collection[str]
-) -> dict[str, Share]:
-    """The same from a day on, before the day `end`; `nights` has the shift types of the night."""
-    works = {cell.nurse_day: cell for cell in plan.state.cells if first <= cell.day < end}
-    holidays = plan.ward.holidays
+def shares_of(plan: WardPlan, cells: Iterable[Cell], holidays: Collection[int]) -> dict[str, Share]:
+    """What each nurse of a plan has of these shifts, some of them on bank holidays."""
+    rows: dict[str, dict[int, str]] = {nurse: {} for nurse in plan.scenario.nurses}
+    for cell in cells:
+        rows.setdefault(cell.nurse, {})[cell.day] = cell.shift
     return {
         nurse: Share(
-            len([day for day, cell in row.items() if cell.shift in nights]),
+            len([day for day, shift in row.items() if shift in plan.ward.nights]),
             len({day // WEEK_DAYS for day in row if day % WEEK_DAYS >= SATURDAY}),
             len([day for day in row if day in holidays]),
         )
-        for nurse, row in by_nurse(plan, works).items()
+        for nurse, row in rows.items()
     }
 
 

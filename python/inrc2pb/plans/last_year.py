@@ -6,7 +6,7 @@ from typing import Iterator, Mapping, NamedTuple, Sequence
 
 from ..week.dates import DAY
 from ..week.faults import FileFault
-from .fairness import Share, contracts_of, shares_between
+from .fairness import Share, contracts_of, shares_of
 from .periods import Period, past_plan
 from .ward import WardPlan
 
@@ -32,9 +32,10 @@ def last_year(periods: Sequence[Period], plan: WardPlan) -> LastYear:
             past = past_plan(period, plan.ward)
         except (FileFault, OSError):
             continue
-        named = past.with_state(past.state.renamed(plan.ward.name_now))
-        had = shares_between(named, first, period.days.total, plan.ward.nights)
-        there = {cell.nurse for cell in named.state.cells if cell.day >= first}
+        named = past.state.renamed(plan.ward.names_since(past.state.was))
+        cells = [cell for cell in named.cells if cell.day >= first]
+        had = shares_of(plan, cells, past.ward.holidays)
+        there = {cell.nurse for cell in cells}
         for group in contracts_of(plan).values():
             mean = _mean([had[nurse] for nurse in group if nurse in there])
             for nurse in group:
