@@ -36,7 +36,8 @@ class WithoutPlan(KeptTest):
         """The status, output and messages of the verb plan, if its searches end so, one after
         another."""
         searches = mock.patch.object(planning, "search_plan", side_effect=results)
-        with searches, mock.patch.object(planning, "why_no_plan", return_value=why):
+        found = iter([why] if why else [])
+        with searches, mock.patch.object(planning, "shortages", return_value=found):
             return run("plan", self.ward, "plan")
 
     def agree(self):
@@ -147,6 +148,7 @@ class WithoutPlan(KeptTest):
             "    Bruno works Late on this day",
             "    Chen could, if nothing else needs her",
             "    away: Amara, Ewa",
+            "with --open these shifts stay open",
         ])  # fmt: skip
 
 

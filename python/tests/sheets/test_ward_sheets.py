@@ -926,7 +926,7 @@ class Contents(unittest.TestCase):
             (("Amara Koch", ""), "row 2, column L: 'Amara Koch' has a row: delete one of the two"),
             (
                 ("Ott", "ott"),
-                "row 3, column L: 'ott' is the older name of two nurses: empty one of the cells",
+                "row 3, column L: 'ott' is the older name of two rows: empty one of the cells",
             ),
         ):
             sheets = copy.deepcopy(SHEETS)
@@ -935,7 +935,7 @@ class Contents(unittest.TestCase):
             with self.subTest(cells):
                 if said is None:
                     older = {"amara": "Amara_Koch", "amara_ott": "Amara_Koch"}
-                    self.assertEqual(made(sheets).was, older)
+                    self.assertEqual({one.older: one.now for one in made(sheets).was}, older)
                     continue
                 with self.assertRaises(FileFault) as caught:
                     made(sheets)
