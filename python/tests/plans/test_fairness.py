@@ -305,7 +305,7 @@ class Exchanges(KeptTest):
     def test_who_stops_a_search_does_not_wait_for_a_slow_machine(self):
         plan = self.read()
 
-        def slow(even, first, steps, ends):
+        def slow(even, first, steps, ends, before):
             limit = time.monotonic() + ENOUGH
             while not ends() and time.monotonic() < limit:
                 time.sleep(0.01)
