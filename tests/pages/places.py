@@ -82,9 +82,9 @@ def wrong_numbers(named: Dict[str, Set[str]]) -> Iterator[str]:
 
 
 def wrong_printed() -> Iterator[str]:
-    """Lines of soft_rules.py that it would not print if there were a rule S8."""
-    forgotten = soft_rules.forgotten(soft_rules.soft_rules() | {"S8"})
-    for place in re.findall(r"(?m)^(.+) names all soft rules but S8$", CHANGING):
+    """Lines that soft_rules.py does not print for the next rule."""
+    forgotten = soft_rules.forgotten(soft_rules.soft_rules() | {soft_rules.next_rule()})
+    for place in re.findall(r"(?m)^(.+) names all soft rules but the next$", CHANGING):
         if place not in forgotten:
             yield f"docs/changing.md: soft_rules.py does not name {place}"
 

@@ -1,7 +1,7 @@
 #!/usr/bin/env python3
 """Names the places that forget a soft rule.
 
-usage: soft_rules.py [RULE]
+usage: soft_rules.py [next]
 
 Most files name no rule, or a few. Three kinds of places have to name all of them, but for those that
 are exempt:
@@ -11,9 +11,9 @@ are exempt:
   a file   is a place if it names all rules but one.
   a group  files that share the rules, such as those with the costs of a search.
 
-A range that begins with S2 is about what charges a nurse, which S1 does not. With RULE, such as S8, it
-names the places that this rule has to reach before there is one. Prints each place, a list with its
-last line, and ends with status 1 if there is one.
+A range that begins with S2 is about what charges a nurse, which S1 does not. With `next`, the script
+names the places that the next rule will have to reach. Prints each place, a list with its last line,
+and ends with status 1 if there is one.
 """
 
 import re
@@ -58,6 +58,11 @@ class Mention(NamedTuple):
 def soft_rules() -> set[str]:
     """The names of the soft rules, as the code lists them."""
     return set(re.findall(r"Rule::(S\d+),", RULES_IN_CODE.read_text()))
+
+
+def next_rule() -> str:
+    """The name of the rule that is still to come."""
+    return f"S{len(soft_rules()) + 1}"
 
 
 def texts() -> Iterator[tuple[str, str]]:
@@ -125,12 +130,12 @@ def forgotten(rules: set[str]) -> dict[str, str]:
 
 
 def main(arguments: list[str]) -> int:
-    if len(arguments) > 1 or not all(re.fullmatch(r"S\d+", one) for one in arguments):
-        print("usage: soft_rules.py [RULE]", file=sys.stderr)
+    if arguments not in ([], ["next"]):
+        print("usage: soft_rules.py [next]", file=sys.stderr)
         return 2
-    places = forgotten(soft_rules() | set(arguments))
+    places = forgotten(soft_rules() | ({next_rule()} if arguments else set()))
     for place, rule in sorted(places.items()):
-        print(f"{place} names all soft rules but {rule}")
+        print(f"{place} names all soft rules but {'the next' if arguments else rule}")
     return 1 if places else 0
 
 
