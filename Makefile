@@ -50,7 +50,7 @@ check: $(ROWS)
 test:
 	.ci/run
 
-# What a planner does in a period on the local page, in a headless Chromium, by mouse and by keyboard, on a screen and on a telephone: takes some
+# The work of a planner in a period on the local page, in a headless Chromium, by mouse and by keyboard, on a screen and on a telephone: takes some
 # minutes. Needs Debian's packages chromium, chromium-driver and python3-selenium; the gate takes a short way only.
 browser: build
 	/usr/bin/python3 -m pytest -q -s python/tests/plans/browser_ways.py python/tests/plans/test_browser.py

@@ -46,7 +46,7 @@ NONE = "none"
 UNKNOWN = "-"
 HEAD = "# name nurses weeks variables constraints sum-of-files sum-of-model best bound seconds"
 # The families of instances by the beginning of their names: how the rest of a name is made, and
-# what is special.
+# its special property.
 FAMILIES = {
     "small": ("N-..", "three shift types, two skills; the first, second or last week of a period"),
     "first": ("N", "four shift types, four skills; the first week of a period"),

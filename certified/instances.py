@@ -49,7 +49,7 @@ from inrc2pb.week.records import (  # noqa: E402
 )
 
 FIRST, SECOND, THIRD, LAST = range(WEEKS)
-# The numbers that a generator draws before it is used: the first ones of near seeds are alike.
+# The numbers that a generator draws before it is used: the first ones of near seeds are similar.
 WARM = 8
 # The shift types of small wards, the mixes of skills of their nurses, and the part of each nurse
 # who is needed on each shift, in percent.

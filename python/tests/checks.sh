@@ -9,7 +9,7 @@
 settings=python/pyproject.toml
 python_files=(build.py bench certified completions python tests)
 
-# One case for each test of Python; two of them run at a time, if pytest-xdist is installed. The commands look for inrc2pb-bound beside inrc2pb.
+# One case for each test of Python; two of them run at a time, if pytest-xdist is installed. The commands look for inrc2pb-bound in the folder of inrc2pb.
 run_tests() {
     local told good bad left workers=()
     has pytest || return

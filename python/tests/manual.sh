@@ -35,7 +35,7 @@ manual_has_each_option() {
         "$(for word in '' --inrc2 --model --answer; do shown inrc2pb-solve ${word:+"$word"}; done | sort -u)"
 }
 
-# Each fault in the table of docs/answers.md has a usual cause beside its text.
+# Each fault in the table of docs/answers.md has a usual cause in its row.
 explains_each_fault() {
     begins_case 'the faults that docs/answers.md explains'
     awk -F '|' '/^\| fault \| text \|/ { inside = 1; next } inside && !/^\|/ { exit } inside && !/^\|-/ { rows += 1; if ($5 ~ /^ *$/) print $3 }

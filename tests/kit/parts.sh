@@ -51,7 +51,7 @@ scripts() {
 }
 
 # all_scripts [llvm | rattle | PROGRAM]..: each script, with each of these words; for `rattle` without those of pages, Python and the manual,
-# whose result does not depend on the compiler, and without those of tests/random, which run both programs beside each other.
+# whose result does not depend on the compiler, and without those of tests/random, which run both programs side by side.
 all_scripts() {
     local file word number=100 row good bad left
     [ $# -gt 0 ] || set -- llvm

@@ -30,7 +30,7 @@ PROMISE = re.compile(
     r"(?m)^ +ensures (\w+)? ?\{ ?((?:.(?!\n +(?:ensures|requires) |\n *\{))*.)", re.S
 )
 EXACT = re.compile(r"(let .*? in )?result(\.now)? ≡ ")
-# What a promise says of the result of a call or of its content, which gets a name, or of no result.
+# The words of a promise on the result of a call or on its content, which gets a name, or of no result.
 EQUATION = re.compile(
     r"(?:let .*? in )?(?:(?:If|On)(?:Ok|Err) result \((?:λ (\w+)\. )?)?([\w.]+) ≡ ([^→≡]*)$"
 )

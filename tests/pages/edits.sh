@@ -159,7 +159,7 @@ over_built_libraries() {
     tells 'upper/first_left_out: NOT READ'
 }
 
-# Edits that are not refused, each beside the good ones.
+# Edits that are not refused, each among the good ones.
 planted_edits() {
     edit upper third_accepted 'right third' 'same third'
     tries 'an edit that is proved, of a function that calls another edited one' 1 '5 passed, 1 failed' --anew
@@ -211,7 +211,7 @@ planted_records() {
     writes
 }
 
-# The judge belongs to what a refusal depends on, and when and where its files were written does not.
+# A refusal depends on the judge, and not on the time and the place at which its files were written.
 another_judge() {
     find "$ward" -exec touch -d 2001-01-01 {} +
     mv "$ward" "$room/elsewhere"
@@ -262,7 +262,7 @@ tried_again() {
     writes
 }
 
-# kills NUMBER: so many of the next checks are ended by a signal.
+# kills NUMBER: this number of the next checks is ended by a signal.
 kills() {
     rm -rf "$room/killed"
     mkdir "$room/killed"

@@ -57,7 +57,7 @@ OUTCOMES = {
 }
 FIELD = re.compile(r"^  (?:pub )?([\w-]+(?: [\w-]+)*) :", re.M)
 TAKEN = re.compile(r"\.([A-Za-z_][\w-]*)")
-# What a type or a trait says of its values, in its source.
+# The statements of a type or a trait on its values, in its source.
 GHOST = re.compile(r"^ *ghost \w+ = \{(.*?)\};$", re.M | re.S)
 GUARDS = ("taken", "made", "inner", "edit", "law", "proof", "nothing")
 # A parameter of a record that is a value, and no type.

@@ -34,7 +34,7 @@ first_promise='/^pub fn run_bound/,/^{/{0,/^    ensures/s/^    ensures/    ensur
 with_promise() { echo "${first_promise/CLAUSE/$1}"; }
 notices clauses 'run::run_bound spare' $run "$(with_promise 'AreFiles files.new')"
 notices clauses 'run::run_bound spare' $run "$(with_promise 'question ≡ question')"
-# An equation of the new files, which fixes only a part of what is seen of them.
+# An equation of the new files, which fixes only a part of them.
 notices clauses 'run::run_bound spare' $run "$(with_promise 'is_some files.new.given ≡ is_some files.old.given')"
 # `MemoryTarget::new` of another crate has a promise of this name, and proofs need that one.
 notices clauses 'Prices::new empty' rota_core/src/prices.rt \

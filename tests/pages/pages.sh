@@ -7,7 +7,7 @@
 #   tests/pages/pages.sh [llvm | rattle | PROGRAM [PAGE..]]
 #
 # If pages are named, such as docs/words.md, the blocks of the others are not run, and their code is not looked up.
-# Nothing is proved: a stand-in for `rt` gives the program. If clasp is not installed, a stand-in gives its stored answers. Needs
+# Nothing is proved: a substitute for `rt` gives the program. If clasp is not installed, a substitute gives its stored answers. Needs
 # bash, the usual tools of a shell, make and Python 3.11.
 . "$(dirname "$0")/../kit/kit.sh"
 every_page=(README.md CONTRIBUTING.md CHANGELOG.md {bench,certified,examples}/README.md docs/*.md)
@@ -79,7 +79,7 @@ script_of() {
     ' "$1"
 }
 
-# prints_in_order TEXT OUTPUT: each line of the text is one of the output, in this order. A line `..` stands for more lines, and ` ..` at the
+# prints_in_order TEXT OUTPUT: each line of the text is one of the output, in this order. A line `..` means more lines, and ` ..` at the
 # end of a line for more words.
 prints_in_order() {
     awk 'function is_shown(line, shown) { return line == shown || (sub(/ \.\.$/, "", shown) && index(line, shown) == 1) }

@@ -77,7 +77,7 @@ LISTS = [
         set(),
     ),
 ]
-# What a reader may want to believe, and the number of the first lists that say it.
+# The beliefs of a reader, and the number of the first lists that say them.
 BELIEFS = [
     ("The model of a week means its rules.", 1),
     ("`encode` writes such a model, or names the first fault.", 2),
@@ -93,7 +93,7 @@ RESTING = {
         "BoundProgramOutcome",
     ),
 }
-# The same of these statements: in words, the lists in words, and where the statement is.
+# The same of these statements: in words, the lists in words, and the place of the statement.
 BOUND_BELIEFS = [
     (
         "A bound holds for all rosters, and a given penalty is right.",

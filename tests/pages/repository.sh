@@ -1,7 +1,7 @@
 #!/usr/bin/env bash
 # Checks facts that the repository states twice: the program, CHANGELOG.md and the Python package have the same version, the
 # generators write the example weeks, docs/install.md names this kit, and the examples of the libraries are their tests. Checks that
-# no crate uses lemmas of another that no list has, that no file forgets a soft rule, that the pages for contributors name what is there, the
+# no crate uses lemmas of another that no list has, that no file forgets a soft rule, that the pages for contributors name existing files, the
 # shell scripts by shellcheck, if it is installed, and which files can be run.
 #
 #   tests/pages/repository.sh [llvm | rattle | PROGRAM]
@@ -69,7 +69,7 @@ examples_are_tests() {
     done
 }
 
-# A crate uses another crate's contracts, and of its lemmas only the modules of a list. What an outcome says no more of than that it is there is in a
+# A crate uses another crate's contracts, and of its lemmas only the modules of a list. A value of which an outcome says no more than that it exists is in a
 # list, too.
 takes_contracts() {
     begins_case 'lemma modules that a crate takes from another, and existentials'

@@ -313,10 +313,10 @@ checks_in_order() {
     refuses 'then the second roster' 1 'week 2: solution line 1: another word expected' "${files[@]}"
 }
 
-# manual SECTION: a section of the manual page in one line, where a command's lines are joined.
+# manual SECTION: a section of the manual page in one line, with the lines of a command joined.
 manual() { sed -n "/^\.Sh $1\$/,/^\.Sh/p" man/inrc2pb-bound.1 | sed 's/ *\\e$//' | tr -s ' \n' ' '; }
 
-# The help begins and ends as the manual page does: what the program is for, its examples, and its exit statuses.
+# The help begins and ends as the manual page does: the purpose of the program, its examples, and its exit statuses.
 shows_help() {
     local example statuses
     run 'help' 0 text nothing --help

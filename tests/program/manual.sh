@@ -113,7 +113,7 @@ completes_commands() {
     is 'a file, which bash completes' "$(offered python/inrc2pb-roster show ward.txt '')" ' '
 }
 
-# offered_by_zsh WORD..: what the completion of the Python commands offers in zsh for the last of these; `files` are file names.
+# offered_by_zsh WORD..: the offers of the completion of the Python commands in zsh for the last of these; `files` are file names.
 offered_by_zsh() {
     zsh -fc 'compadd() { print -l -- ${(P)2} }; _files() { print files }; words=("$@"); CURRENT=$#; . completions/_inrc2pb-commands' zsh "$@"
 }

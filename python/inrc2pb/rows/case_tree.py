@@ -68,7 +68,7 @@ class CaseTree:
         # How many cases are searched now, and a guard of all that the searches share.
         self._busy = 0
         self._changed = threading.Condition()
-        # How many searches have ended by a fault, and the least bound of a case that is not split.
+        # How many searches have ended by a fault, and the lowest bound of a case that is not split.
         self._failed = 0
         self._unsplit = Points(NEVER)
         self.leaves = 1

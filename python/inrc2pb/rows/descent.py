@@ -32,7 +32,7 @@ class Descent:
             if place is not None:
                 self._placed[names[cell.nurse]].append(place)
                 self._number[place] += 1
-        # The crews that count at each place, and what one more nurse of each crew is worth, in
+        # The crews that count at each place, and the worth of one more nurse of each crew, in
         # thousandths.
         self._crews_at: List[List[int]] = [[] for _ in self._crews.places]
         for crew, places in enumerate(self._crews.members):

@@ -18,7 +18,7 @@ class Arrays:
     def __init__(self, days: Sequence[Tuple[Any, Any, Any]], runs: Sequence[Any] = ()) -> None:
         self.days = list(days)
         self.runs = list(runs)
-        # What a compiled library reads.
+        # The input of a compiled library.
         self.compiled: Any = None
         # The number of nodes before each day, and at the end.
         self.nodes = [*(costs.shape[1] for costs, _, _ in self.days), len(self.days[-1][2])]

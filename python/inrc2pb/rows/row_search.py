@@ -32,7 +32,7 @@ class Known(NamedTuple):
     plan: Plan
     # The best prices.
     prices: Prices
-    # Rows of each nurse, those that cost the least at these prices first.
+    # Rows of each nurse, the cheapest at these prices first.
     rows: List[List[NurseWeek]]
     # The number of rows of the first roster, which the program has before all others.
     first: int = 0

@@ -97,7 +97,7 @@ class WeekDives(RowSearch):
         time the rows are those of the greatest shares, made better one after another."""
         pricing = self.pricing
         program = self.program
-        # The rows of the greatest shares in the last solution.
+        # The rows of the largest shares in the last solution.
         self._last = self._greatest(self.solved)
         try:
             return self._dive(clock, share, chance, in_order)

@@ -30,7 +30,7 @@ from .windows import Window
 
 # Seconds that a process has beyond the end of the time.
 GRACE = 2.0
-# What a process does. Its words are the file of what is known, and where its modules are.
+# The task of a process. Its words are the file of all that is known, and the folder of its modules.
 _START = f"import sys; sys.path[:] = sys.argv[2:]; from {__name__} import main; main(sys.argv[1])"
 _Answer = TypeVar("_Answer")
 

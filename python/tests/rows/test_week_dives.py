@@ -266,7 +266,7 @@ class Dives(DiveTest):
         self.assertLessEqual(set(ordered) - whole, set(others[:30]))
         self.assertLessEqual(whole, set(free))
         self.assertEqual(len({week.nurse for week in set(free) - whole}), more)
-        # The greatest shares come first, behind the weeks that have no other choices.
+        # The largest shares come first, after the weeks that have no other choices.
         weights = [max(shares[week].values()) for week in free][-more:]
         self.assertEqual(weights, sorted(weights, reverse=True))
 

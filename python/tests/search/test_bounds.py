@@ -136,7 +136,7 @@ class Proofs(FakeProver):
         self.assertEqual(self.target.read_text(), run.certificate().text("ward"))
 
     def test_leaves_are_priced_in_the_time_that_is_left(self):
-        # The search kept an absence, and the bound is that of all rosters, so leaves are priced.
+        # The search kept an absence, and the bound holds for all rosters, so leaves are priced.
         run = self.certified(self.away)
         self.assertIsNone(self.bounds(None).of(run, FREE, 0.0))
         said = "the certificate was not priced in 0 s in plain Python, so there is no bound"

@@ -337,7 +337,7 @@ class Rosters(ChangingFiles):
         with begin_command("solve", *words) as searching:
             while not (out / "history-2.txt").exists() and searching.poll() is None:
                 time.sleep(0.05)
-            # The garbage is there before the search can end.
+            # The garbage is written before the search can end.
             searching.send_signal(signal.SIGSTOP)
             for name in ("roster-1.txt", "history-1.txt"):
                 (out / name).write_text("garbage\n")

@@ -228,7 +228,7 @@ class Swaps(HelperTest):
             ["Chen Mon: Day Nurse instead of off", "Grace Mon: off instead of Day Nurse"],
         )
         # Chen is off on the day before the week, and on Tuesday: 15 and 2 * 30 points for one day of
-        # Day and of work, and 30 for each of two days off that stand alone.
+        # Day and of work, and 30 for each of two days off that are alone.
         self.assertEqual(
             printed.splitlines()[-1], " +135  in all: S2 +75 S3 +60; penalty 155 instead of 20"
         )

@@ -66,7 +66,7 @@ class OwnSolvers(HelperTest):
         self.assertTrue(report.endswith(f"no lower bound\n{wrong}\n"), report)
 
     def test_a_claim_that_no_roster_exists_and_no_proof(self):
-        # Without inrc2pb-bound beside it nothing is proved.
+        # Without inrc2pb-bound in its folder nothing is proved.
         alone = self.folder / "inrc2pb"
         eight = ROOT / "examples" / "eight"
         alone.symlink_to(program.find_program())
