@@ -6,8 +6,8 @@ from urllib.parse import urlencode
 
 from ..plans.offers import MOST_OFFERS, fault_text, nobody_text, offer_text, offers_of
 from ..plans.sentences import cell_text
-from ..plans.state import SetDay
-from ..plans.swaps import MOST_POINTS, Swap, Swaps
+from ..plans.state import SetDay, Swap
+from ..plans.swaps import MOST_POINTS, Swaps
 from ..plans.ward import ALWAYS_OFF, DAYS_OFF, PROMISED, WardPlan
 from ..sheets.plan_sheets import AWAY
 from ..sheets.written_days import BACK

@@ -9,7 +9,7 @@ from urllib.parse import quote
 from ..plans.absence import Away
 from ..plans.pages import CALENDARS, roster_content
 from ..plans.planned import Planned
-from ..plans.swaps import Swap
+from ..plans.state import Swap
 from ..plans.verbs.over import WeekOver
 from ..plans.verbs.swap import Swapped
 from ..plans.ward import WardPlan

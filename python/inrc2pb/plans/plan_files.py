@@ -26,7 +26,7 @@ from ..week.own_files import check_own
 from ..week.records import Cell, History, NurseDay, Scenario, Solution, in_plan
 from ..week.slots import MAX_NUMBER, MAX_WEEKS, text_of
 from .kept import Looks, is_settled, looks_of
-from .state import Record, SetDay, State
+from .state import Record, SetDay, State, Swap
 
 
 NAME = "plan.json"
@@ -46,6 +46,7 @@ _HOLIDAYS = "bank holidays"
 _LEAST = "least points"
 # The most points of a plan.
 _MOST_POINTS = 10**9
+_SWAP = "swap"
 # The most periods of a folder.
 _MOST_PERIODS = 9999
 
@@ -76,6 +77,7 @@ def record_text(record: Record) -> str:
         **({_WAS: [list(one) for one in record.was]} if record.was else {}),
         **({_HOLIDAYS: [*record.holidays]} if record.holidays else {}),
         **({} if record.least is None else {_LEAST: record.least}),
+        **({_SWAP: [list(place) for place in record.swap.places]} if record.swap else {}),
     }
     lines = [
         f"  {json.dumps(name)}: {json.dumps(value, ensure_ascii=False)}"
@@ -157,11 +159,12 @@ def _record_of(values: Any) -> Record:
         _WAS,
         _HOLIDAYS,
         _LEAST,
+        _SWAP,
     )
-    newer = {_SET, _TYPED, _PERIOD, _OPEN, _WAS, _HOLIDAYS, _LEAST}
+    newer = {_SET, _TYPED, _PERIOD, _OPEN, _WAS, _HOLIDAYS, _LEAST, _SWAP}
     if not isinstance(values, dict) or {*newer, *values} != set(names):
         raise _Changed(f"it has not the names {', '.join(names)}")
-    values = {_SET: [], _TYPED: "", _OPEN: [], _WAS: [], _HOLIDAYS: [], **values}
+    values = {_SET: [], _TYPED: "", _OPEN: [], _WAS: [], _HOLIDAYS: [], _SWAP: [], **values}
     monday = values["monday"]
     weeks = _taken(values, "weeks", _is_number_to(MAX_WEEKS))
     days = PlanDays(None if monday is None else _time(values, "monday", "%Y-%m-%d").date(), weeks)
@@ -196,7 +199,20 @@ def _record_of(values: Any) -> Record:
                 lambda days: isinstance(days, list) and all(map(is_day, days)),
             )
         ),
+        swap=_swap_of(_rows(values, _SWAP, [_is_text, is_day]), values["verb"], days),
     )
+
+
+def _swap_of(rows: Sequence[Sequence[Any]], verb: str, days: PlanDays) -> Optional[Swap]:
+    """The swap of these nurses' days, if there are some; an older version has it in the words of
+    its verb only."""
+    if rows:
+        first = rows[0][0]
+        return Swap(first, rows[-1][0], tuple(day for nurse, day in rows if nurse == first))
+    name, *words = verb.split(" ")
+    heads = f" {' '.join(words[2:])} "
+    swapped = tuple(day for day in range(days.total) if f" {days.head(day)} " in heads)
+    return Swap(words[0], words[1], swapped) if name == "swap" and swapped else None
 
 
 def _is_text(value: object) -> bool:

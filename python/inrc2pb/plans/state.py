@@ -3,7 +3,7 @@ plan everywhere but in the files of single weeks."""
 
 import datetime
 from dataclasses import dataclass, replace
-from typing import Callable, Dict, Iterable, NamedTuple, Optional, Tuple
+from typing import Callable, Dict, Iterable, List, NamedTuple, Optional, Tuple
 
 from ..sheets.older_names import Names, Renamed
 from ..sheets.open_shifts import OpenShift
@@ -35,24 +35,43 @@ class SetDay(NamedTuple):
         return Cell(self.nurse, self.day, self.shift, self.skill) if self.shift else None
 
 
-class Record(NamedTuple):
-    """What a plan's folder says of itself: the verb that made it, and when; the days of the plan;
-    the first week that is not over; whether it hangs on the wall, so that later plans change
-    little; the days away that verbs have written, of which the last one of a day holds; the days of
-    swaps that were written, and those that were set, whose shifts later plans keep; the words that
-    its user typed; and the number of its period in the folder, from 0, which an older version does
-    not say.
-    """
+class Swap(NamedTuple):
+    """Two nurses who change places on these days of the plan."""
 
+    nurse: str
+    other: str
+    days: Tuple[int, ...]
+
+    @property
+    def pairs(self) -> Tuple[Tuple[str, str], Tuple[str, str]]:
+        """Each nurse with the one whose shifts she gets."""
+        return (self.nurse, self.other), (self.other, self.nurse)
+
+    @property
+    def places(self) -> List[NurseDay]:
+        """The days of both nurses."""
+        return [NurseDay(nurse, day) for nurse, _ in self.pairs for day in self.days]
+
+
+class Record(NamedTuple):
+    """What a plan's folder says of itself."""
+
+    # The verb that made it, and when.
     verb: str
     time: datetime.datetime
     days: PlanDays
+    # The first week that is not over.
     open_week: int = 0
+    # Whether it hangs on the wall, so that later plans change little.
     published: bool = False
+    # The days away that verbs have written, of which the last one of a day holds.
     absences: Tuple[DayWord, ...] = ()
+    # The days of swaps that were written, and those that were set, whose shifts later plans keep.
     agreed: Tuple[NurseDay, ...] = ()
     set_days: Tuple[SetDay, ...] = ()
+    # The words that its user typed.
     typed: str = ""
+    # The number of its period in the folder, from 0, which an older version does not say.
     period: Optional[int] = None
     # The shifts that are left open, and the older names that are new ones in the plan.
     opened: Tuple[OpenShift, ...] = ()
@@ -61,6 +80,8 @@ class Record(NamedTuple):
     holidays: Tuple[int, ...] = ()
     # What no plan costs less than, as far as the last search of all shifts has said so.
     least: Optional[int] = None
+    # The swap that its verb has written, if it was one.
+    swap: Optional[Swap] = None
 
     @property
     def made(self) -> str:
@@ -121,7 +142,9 @@ class State:
         worked = (cell for cell in self.cells if cell.day < self.first)
         return replace(self, cells=(*worked, *cells), planned=self.days.weeks)
 
-    def record(self, verb: str, time: datetime.datetime, typed: str = "") -> Record:
+    def record(
+        self, verb: str, time: datetime.datetime, typed: str = "", swap: Optional[Swap] = None
+    ) -> Record:
         """What the folder of a plan says of itself that this verb has made, for which these words
         were typed."""
         return Record(
@@ -138,6 +161,7 @@ class State:
             least=self.least,
             opened=self.opened,
             was=self.was,
+            swap=swap,
         )
 
     def renamed(self, names: Names) -> "State":

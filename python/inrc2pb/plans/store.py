@@ -23,7 +23,7 @@ from .pages import Pages
 from .periods import past_plan
 from .plan_files import known_record, roster_name, state_texts
 from .reading import PlanReader, running
-from .state import Record
+from .state import Record, Swap
 from .ward import WardPlan
 from .ward_folder import WardFolder
 from .worked_table import worked_text
@@ -60,16 +60,18 @@ class PlanStore(PlanReader):
         free = [number for number in days if number not in planned and plans and not words]
         return PlanStore(self.folder, self.means, next(iter((*named, *free)), None))
 
-    def save(self, verb: str, plan: WardPlan, typed: str = "") -> Pages:
+    def save(
+        self, verb: str, plan: WardPlan, typed: str = "", swap: Optional[Swap] = None
+    ) -> Pages:
         """Writes the plan and its pages. Returns the pages."""
-        self.add(verb, plan, typed)
+        self.add(verb, plan, typed, swap)
         return self.pages(plan)
 
-    def add(self, verb: str, plan: WardPlan, typed: str = "") -> None:
+    def add(self, verb: str, plan: WardPlan, typed: str = "", swap: Optional[Swap] = None) -> None:
         """Writes the plan that this verb has made, for which these words were typed, without
         pages."""
         now = datetime.datetime.now()
-        texts = plan_texts(plan, plan.state.record(verb, now, typed))
+        texts = plan_texts(plan, plan.state.record(verb, now, typed, swap))
         self.folder.add(verb.split(" ", 1)[0], texts, now)
 
     def other_pages(self) -> Tuple[str, ...]:

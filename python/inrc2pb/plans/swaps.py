@@ -13,6 +13,7 @@ from ..judging.rules import numbers
 from ..week.records import Cell, NurseDay, Place, exchanged
 from ..week.soft_rules import MISSING_NURSE
 from .nurse_weeks import Fault, NurseCells, NurseWeeks, by_nurse
+from .state import Swap
 from .ward import WardPlan
 
 
@@ -20,24 +21,6 @@ from .ward import WardPlan
 MOST_POINTS = 30
 # Why a nurse cannot have a shift, whatever other shifts she and others have.
 _FIRM = (Obstacle.HELD, Obstacle.AWAY, Obstacle.NEVER, Obstacle.SKILL, Obstacle.PROMISED)
-
-
-class Swap(NamedTuple):
-    """Two nurses who change places on these days of the plan."""
-
-    nurse: str
-    other: str
-    days: tuple[int, ...]
-
-    @property
-    def pairs(self) -> tuple[tuple[str, str], tuple[str, str]]:
-        """Each nurse with the one whose shifts she gets."""
-        return (self.nurse, self.other), (self.other, self.nurse)
-
-    @property
-    def places(self) -> list[NurseDay]:
-        """The days of both nurses."""
-        return [NurseDay(nurse, day) for nurse, _ in self.pairs for day in self.days]
 
 
 class Offer(NamedTuple):

@@ -6,7 +6,7 @@ from ..week.dates import PlanDays
 from ..week.records import NurseDay
 from .planned import Planned
 from .store import Means, PlanStore
-from .swaps import Swap
+from .state import Swap
 from .verb import Event, Outcome, Verb, saved
 from .verbs import away, back, check, over, page, plan, set_day, swap, undo
 from .ward import WardPlan

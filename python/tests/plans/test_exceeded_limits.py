@@ -20,7 +20,8 @@ from inrc2pb.plans.state import NurseDay
 from inrc2pb.plans.plan_files import read_record, read_state, record_text
 from inrc2pb.sheets.written_days import lost_shifts
 from inrc2pb.plans.offers import fault_text
-from inrc2pb.plans.swaps import Swap, Swaps
+from inrc2pb.plans.state import Swap
+from inrc2pb.plans.swaps import Swaps
 from inrc2pb.plans.ward import continued, plan_of
 from inrc2pb.plans.limits import limits_of
 

@@ -29,7 +29,7 @@ from inrc2pb.plans.sentences import (
     unkept_lines,
     wish_lines,
 )
-from inrc2pb.plans.state import Record
+from inrc2pb.plans.state import Record, Swap
 from inrc2pb.plans.plan_files import read_record, read_state, record_text
 from inrc2pb.sheets.written_days import DayWord
 from inrc2pb.plans.ward import plan_of
@@ -522,7 +522,8 @@ class Words(KeptTest):
         )
         time = datetime.datetime(2026, 11, 28, 12, 0)
         for record in (
-            Record("swap Chen Zoë_B 4", time, BARE, 1, True, *days),
+            Record("ill Chen 4", time, BARE, 1, True, *days),
+            Record("swap Chen Zoë_B Sat 1", time, BARE, swap=Swap("Chen", "Zoë_B", (5,))),
             Record("over period", time, PlanDays(MONDAY, 0)),
         ):
             folder = self.folder / "kept"
@@ -543,6 +544,20 @@ class Words(KeptTest):
         # One that has just changed may change again, and look the same.
         (folder / "link").unlink()
         self.assertIsNot(read_record(folder), read_record(folder))
+
+    def test_a_swap_of_an_older_version_is_in_the_words_of_its_verb(self):
+        time = datetime.datetime(2026, 11, 28, 12, 0)
+        folder = self.folder / "kept"
+        folder.mkdir()
+        days = PlanDays(MONDAY, 2)
+        swap = Swap("Chen", "Zoë_B", (0, 4))
+        for record, found in (
+            (Record("swap Chen Zoë_B 2026-11-30 2026-12-04", time, days), swap),
+            (Record("swap Chen Zoë_B 2027-11-30", time, days), None),
+            (Record("ill Chen 2026-11-30 2026-12-04", time, days), None),
+        ):
+            (folder / "plan.json").write_text(record_text(record))
+            self.assertEqual(read_record(folder), record._replace(swap=found))
 
 
 class Weeks(KeptTest):
@@ -689,7 +704,6 @@ class Weeks(KeptTest):
         text = "".join(page.getroot().itertext())
         self.assertIn("Late Nurse, Fri 4 Dec: 1 nurse missing", text)
         self.assertNotIn("H2", text)
-        self.assertNotIn("Nothing is charged", text)
         self.does("over")
         text = (self.ward / "worked-2026-11-30.html").read_text()
         self.assertIn(

@@ -21,7 +21,7 @@ from inrc2pb.plans.verbs.swap import Swapped
 from inrc2pb.plans.verbs.undo import Undone
 from inrc2pb.sheets.written_days import BACK, DayWord
 from inrc2pb.plans.store import Means
-from inrc2pb.plans.swaps import Swap
+from inrc2pb.plans.state import Swap
 from inrc2pb.judging.obstacles import Obstacle
 from inrc2pb.plans.table import Verbs
 from inrc2pb.plans.ward_folder import WardFolder

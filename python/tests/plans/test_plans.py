@@ -28,7 +28,8 @@ from inrc2pb.plans import planning
 from inrc2pb.plans.changes import with_few_changes, with_old_skills
 from inrc2pb.page.server import LocalServer
 from inrc2pb.plans.store import plan_texts
-from inrc2pb.plans.swaps import Swap, Swaps
+from inrc2pb.plans.state import Swap
+from inrc2pb.plans.swaps import Swaps
 from inrc2pb.plans.ward import first_plan
 from inrc2pb.plans.ward_folder import WardFolder
 from inrc2pb.plans.words import Wording

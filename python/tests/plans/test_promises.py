@@ -23,7 +23,8 @@ from inrc2pb.plans.searching import Found, kept_agreed
 from inrc2pb.plans.state import SetDay
 from inrc2pb.plans.plan_files import read_record, read_state
 from inrc2pb.plans.store import Means, PlanStore
-from inrc2pb.plans.swaps import Swap, Swaps
+from inrc2pb.plans.state import Swap
+from inrc2pb.plans.swaps import Swaps
 from inrc2pb.judging.obstacles import Obstacle
 from inrc2pb.plans.table import Verbs
 from inrc2pb.plans.ward import continued

@@ -11,7 +11,8 @@ from inrc2pb.plans.verbs.set_day import DaySet
 from inrc2pb.plans.state import SetDay
 from inrc2pb.plans.plan_files import read_record, read_state
 from inrc2pb.plans.store import Means
-from inrc2pb.plans.swaps import Swap, Swaps
+from inrc2pb.plans.state import Swap
+from inrc2pb.plans.swaps import Swaps
 from inrc2pb.judging.obstacles import Obstacle
 from inrc2pb.plans.table import Verbs
 from inrc2pb.plans.ward_folder import WardFolder

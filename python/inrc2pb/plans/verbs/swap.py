@@ -11,9 +11,9 @@ from ..nurse_weeks import Fault
 from ..offers import Offers, changed_lines, offers_of, refused_lines
 from ..plan_files import read_state
 from ..sentences import exceeded_lines
-from ..state import State
+from ..state import State, Swap
 from ..store import PlanStore, penalties
-from ..swaps import Swap, Swaps, swapped
+from ..swaps import Swaps, swapped
 from ..verb import Event, Form, Outcome, Status, Verb, saved, wording_of
 from ..ward import WardPlan
 
@@ -139,47 +139,28 @@ def _done(store: PlanStore, event: Event) -> Offers | Swapped:
         return found
     # The program has the last word on the new rosters.
     penalties(found.new)
-    return saved(found, store.save(_named(found.old, found.swap), found.new, event.typed))
-
-
-def _named(plan: WardPlan, swap: Swap) -> str:
-    """The swap as a verb with its words."""
-    return f"swap {swap.nurse} {swap.other} {' '.join(map(plan.days.head, swap.days))}"
+    swap = found.swap
+    verb = f"swap {swap.nurse} {swap.other} {' '.join(map(found.old.days.head, swap.days))}"
+    return saved(found, store.save(verb, found.new, event.typed, swap))
 
 
 def agreed_swap(store: PlanStore, plan: WardPlan, place: NurseDay) -> Swap | None:
-    """The last swap that was written for a nurse's day, by the verbs of the plans, if the plan
-    keeps it, and a swap may move its days."""
-    records = (
-        (kept.record for kept in reversed(store.kept(plan))) if place in plan.state.agreed else ()
-    )
-    for record in records:
-        words = record.verb.split(" ")
-        if words[:1] == ["swap"] and place.nurse in words[1:3]:
-            heads = f" {' '.join(words[3:])} "
-            swap = Swap(
-                words[1],
-                words[2],
-                tuple(day for day in range(plan.days.total) if f" {plan.days.head(day)} " in heads),
-            )
-            if place in swap.places:
-                is_kept = set(swap.places) <= set(plan.state.agreed) and not set(swap.places) & {
-                    *plan.state.promised
-                }
-                return swap if is_kept else None
-    return None
+    """The last swap that was written for a nurse's day, if the plan keeps it, and a swap may move
+    its days."""
+    may_move = set(plan.state.agreed) - set(plan.state.promised)
+    swaps = (kept.record.swap for kept in reversed(store.kept(plan)) if place in may_move)
+    swap = next((swap for swap in swaps if swap and place in swap.places), None)
+    return swap if swap and may_move.issuperset(swap.places) else None
 
 
 def _before_swap(store: PlanStore, old: WardPlan, asked: Swap) -> State | None:
     """What the last swap of these two on these days began with, if they have agreed on one."""
     if not set(asked.places) <= set(old.state.agreed):
         return None
-    verbs = [
-        _named(old, swap) for swap in (asked, asked._replace(nurse=asked.other, other=asked.nurse))
-    ]
+    same = (asked, asked._replace(nurse=asked.other, other=asked.nurse))
     plans = store.kept(old)
     pairs = zip(reversed(plans[:-1]), reversed(plans))
-    folder = next((before.folder for before, now in pairs if now.record.verb in verbs), None)
+    folder = next((before.folder for before, now in pairs if now.record.swap in same), None)
     try:
         return read_state(folder) if folder else None
     except (FileFault, OSError):
