@@ -706,14 +706,8 @@ class Weeks(KeptTest):
         self.assertNotIn("H2", text)
         self.does("over")
         text = (self.ward / "worked-2026-11-30.html").read_text()
-        self.assertIn(
-            (
-                "<p>Week 1 (calendar week 49) has no cost, since it breaks rule H2: the sums on"
-                " this page are without it.</p>"
-            ),
-            text,
-        )
-        self.assertNotIn("Week 2 (calendar week 50) has no cost", text)
+        self.assertIn("Late Nurse, Fri 4 Dec: 1 nurse missing", text)
+        self.assertNotIn("has no cost", text)
 
     def test_a_correction_with_its_skill(self):
         self.does("over", "Amara", "Thu", "Day/Nurse")
