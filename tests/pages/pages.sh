@@ -134,6 +134,23 @@ dead_links_are_named() {
     cmp -s "$room/links" "$room/wanted" || complain "$(cat "$room/links")"
 }
 
+# A path with too many words is named, and so is a question that its page does not answer, or that has a page of no path.
+mistakes_of_paths_are_named() {
+    begins_case 'paths that are too long, and questions without an answer'
+    PYTHONPATH=tests/pages python3 > "$room/mistakes" << 'END'
+import paths
+
+readers = paths.readers_of("a nurse | 1\n    README.md | inrc2pb\n")
+lines = ("a nurse", "What? | README.md | inrc2pb | these words", "Where? | README.md | none | words", "Who? | docs/words.md | Words | Each word")
+print(*paths.mistakes(readers, paths.questions_of("\n".join(lines))), sep="\n")
+END
+    printf '%s\n' 'the path of a nurse has N words, and should have 1' 'README.md: What? "inrc2pb" does not say: these words' \
+        'README.md: Where? there is no heading "none"' 'docs/words.md: Who? the path of a nurse has no such page' \
+        'there are 3 questions, and not 60 to 100' > "$room/wanted"
+    sed -i -E 's/has [0-9]+ words/has N words/' "$room/mistakes"
+    cmp -s "$room/mistakes" "$room/wanted" || complain "$(cat "$room/mistakes")"
+}
+
 shows_costs() {
     local five=(--sce ward.txt --his history-0.txt --week week-0.txt) name cost
     begins_case 'the costs of the roster in README.md'
@@ -184,6 +201,7 @@ done
 links_hold "${every_page[@]}"
 dead_links_are_named
 named_pages_exist
+mistakes_of_paths_are_named
 begins_case "the words of the paths, and their readers' questions"
 python3 tests/pages/paths.py > "$room/questions" || complain "$(cat "$room/questions")"
 begins_case 'the laws in docs/promises.md'
