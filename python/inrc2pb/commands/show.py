@@ -3,11 +3,12 @@ spreadsheet, or as calendars."""
 
 import argparse
 import csv
+import datetime
 import io
 import os
 import sys
 from pathlib import Path
-from typing import Iterable, Sequence
+from typing import Collection, Iterable, Sequence
 
 from ..shown.calendars import issue_now, shift_dates, write_calendars
 from ..shown.changes import changed_lines
@@ -16,8 +17,10 @@ from ..shown.page_content import Content
 from ..shown.roster_files import RosterFiles, read_old, read_view
 from ..shown.roster_text import TextTable, spreadsheet
 from ..shown.roster_view import AWAY, HELD, REFUSED, RosterView
-from ..week.dates import read_monday, read_times
+from ..week.dates import DAY, TIMES, Times, times_of
 from ..week.faults import Misuse, not_obeyed
+from ..week.slots import did_you_mean
+from ..week.words import quoted
 from ..week.writing import check_inputs_stay, write_text
 from .arguments import Parser, parser
 from .command import print_painted
@@ -196,3 +199,51 @@ def _has_colors(given: argparse.Namespace) -> bool:
         and not os.environ.get("NO_COLOR")
         and os.environ.get("TERM") != "dumb"
     )
+
+
+def read_monday(text: str, weeks: int) -> datetime.date:
+    """The Monday with which so many weeks begin. Raises Misuse if the text is no Monday, written as
+    `2026-11-30`."""
+    try:
+        date = datetime.date.fromisoformat(text)
+        if str(date) != text:
+            raise ValueError
+    except ValueError:
+        raise Misuse(
+            f"--monday {text}: this is no date: give year, month and day, such as 2026-11-30"
+        ) from None
+    try:
+        date + (7 * weeks + 2) * DAY
+        monday = date - date.weekday() * DAY
+    except OverflowError:
+        raise Misuse(f"--monday {text}: give a date of this century, such as 2026-11-30") from None
+    if date != monday:
+        raise Misuse(f"--monday {text}: this is a {date:%A}: give a Monday, such as {monday}")
+    return date
+
+
+def read_times(texts: Sequence[str], shifts: Collection[str]) -> dict[str, Times]:
+    """The times of all shift types or of none, each given as `Early=06:00-14:15`. A shift that ends
+    before it begins ends a day later. Raises Misuse if a text has no times, or only some shift
+    types have them."""
+    by_shift: dict[str, Times] = {}
+    for text in texts:
+        shift, is_given, times = text.rpartition("=")
+        if not is_given or not TIMES.fullmatch(times):
+            raise Misuse(
+                f"--times {text}: give a shift type, its start and its end, such as"
+                " Early=06:00-14:15"
+            )
+        if shift not in shifts:
+            advice = did_you_mean(shift, shifts, f"give one of {quoted(shifts)}")
+            raise Misuse(f"--times {text}: '{shift}' is no shift type: {advice}")
+        if shift in by_shift:
+            raise Misuse(f"--times {text}: {shift} has two times: give one")
+        by_shift[shift] = times_of(times, f"--times {text}")
+    missing = [shift for shift in shifts if shift not in by_shift]
+    if by_shift and missing:
+        raise Misuse(
+            f"--times has no times of {quoted(missing)}: give them too, such as --times"
+            f" {missing[0]}=06:00-14:15"
+        )
+    return by_shift

@@ -171,3 +171,33 @@ def _fitting(scenario: Scenario, cells: list[Cell], skills: list[str]) -> Iterat
     for order in permutations(skills):
         if all(skill in scenario.nurses[cell.nurse].skills for cell, skill in zip(cells, order)):
             yield [cell._replace(skill=skill) for cell, skill in zip(cells, order)]
+
+
+# ---- what a new plan does not keep
+
+
+class Agreement(NamedTuple):
+    """A nurse's day that later plans should keep, and the shift on it, or None for a day off: that
+    of a swap, or one that was set."""
+
+    place: NurseDay
+    cell: Cell | None
+    is_set: bool = False
+
+
+def broken_agreements(old: WardPlan, new: WardPlan) -> list[Agreement]:
+    """What a new plan does not keep of the days of swaps, and of those that were set. A promise to
+    a nurse who is away is told once: the older plan had kept it."""
+    kept = {*new.state.agreed, *new.state.promised}
+    swaps = [
+        Agreement(place, old.works.get(place)) for place in old.state.agreed if place not in kept
+    ]
+    broken = [
+        promise for promise in new.state.set_days if new.works.get(promise.place) != promise.cell
+    ]
+    told = [
+        promise
+        for promise in broken
+        if promise.place not in new.away or old.works.get(promise.place) == promise.cell
+    ]
+    return [*swaps, *(Agreement(promise.place, promise.cell, is_set=True) for promise in told)]

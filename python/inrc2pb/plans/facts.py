@@ -82,15 +82,6 @@ def promised_days(plan: WardPlan) -> list[NurseDay]:
     return [place for place, cell in promised.items() if plan.works.get(place) == cell]
 
 
-class Agreement(NamedTuple):
-    """A nurse's day that later plans should keep, and the shift on it, or None for a day off: that
-    of a swap, or one that was set."""
-
-    place: NurseDay
-    cell: Cell | None
-    is_set: bool = False
-
-
 def unkept(plan: WardPlan) -> list[Unkept]:
     """What the weeks that are not over do not keep: who works while she is away, and who has more
     than a limit that holds."""
@@ -331,21 +322,3 @@ def _away_words(plan: WardPlan, nurse: str, days: Iterable[int]) -> tuple[str, .
             if NurseDay(nurse, day) in plan.ward.reasons
         )
     )
-
-
-def broken_agreements(old: WardPlan, new: WardPlan) -> list[Agreement]:
-    """What a new plan does not keep of the days of swaps, and of those that were set. A promise to
-    a nurse who is away is told once: the older plan had kept it."""
-    kept = {*new.state.agreed, *new.state.promised}
-    swaps = [
-        Agreement(place, old.works.get(place)) for place in old.state.agreed if place not in kept
-    ]
-    broken = [
-        promise for promise in new.state.set_days if new.works.get(promise.place) != promise.cell
-    ]
-    told = [
-        promise
-        for promise in broken
-        if promise.place not in new.away or old.works.get(promise.place) == promise.cell
-    ]
-    return [*swaps, *(Agreement(promise.place, promise.cell, is_set=True) for promise in told)]

@@ -9,10 +9,10 @@ from ..week.dates import PlanDays
 from ..week.records import WEEK_DAYS
 from ..week.words import plural, readable
 from .absence import not_written_text
-from .changes import shift_changes
+from .changes import Agreement, broken_agreements, shift_changes
 from .corrections import next_period_lines
 from .last_year import LastYear
-from .facts import Agreement, broken_agreements, unkept, while_away
+from .facts import unkept, while_away
 from .left_open import all_open_lines, open_from
 from .offers import price_lines
 from .searching import Asked, KnownBound

@@ -1,12 +1,29 @@
-"""What is odd in the tables of a ward, and counts all the same."""
+"""What is odd in the sheets of a ward, and counts all the same."""
 
-from typing import Collection, Iterator
+from typing import Collection, Iterator, Mapping, Sequence
 
+from ..judging.demand import demand_warnings, supply_warnings
+from ..judging.leave import Counted
+from ..judging.odd_values import (
+    Reach,
+    Warned,
+    history_warnings,
+    reach_of,
+    scenario_warnings,
+    week_warnings,
+)
+from ..week.dates import PlanDays, Times
+from ..week.facts import WORK_DAYS
 from ..week.faults import Gathering
-from ..week.records import DAYS
+from ..week.records import DAYS, History, Scenario, WeekData, in_a_row, in_plan, together
 from ..week.slots import closest
 from ..week.words import readable
+from .odd_cells import cell_warnings
+from .plan_days import Days, plan_warnings, week_of_row_warnings
+from .plan_sheets import WeekSheet
+from .sheet_facts import look_warnings
 from .sheet_files import Book
+from .unseen import unseen_warnings
 from .ward_sheets import NIGHT, WardTables, HEADS, table_of
 
 
@@ -86,3 +103,65 @@ def ward_warnings(ward: WardTables) -> Iterator[str]:
                 f"sheet shifts: each shift type may follow {name} on the next day: write those that"
                 " may not into 'not followed by'"
             )
+
+
+def held_warnings(ward: WardTables, weeks: list[WeekSheet], days: Days) -> Iterator[str]:
+    """Warnings of shifts that are held on more days in a row than a contract never exceeds."""
+    plan = days.plan_days
+    held = in_plan([shift.row for shift in week.held] for week in weeks)
+    for nurse, contract in (
+        (name, ward.scenario.contract_of(name)) for name in ward.scenario.nurses
+    ):
+        most = contract.working_days.maximum
+        rows = in_a_row([cell.day for cell in held if cell.nurse == nurse])
+        if WORK_DAYS in ward.kept[ward.scenario.nurses[nurse].contract]:
+            for row in (row for row in rows if len(row) > most):
+                what = (
+                    f"{nurse} has {len(row)} fixed shifts in a row, {plan.span(row)}, and never"
+                    f" works more than {most}"
+                )
+                yield f"{what}: take some of them out, or the sign ! from work max"
+
+
+def odd_sheets(
+    book: Book,
+    days: Days,
+    tables: WardTables,
+    sheets: list[WeekSheet],
+    times: Mapping[str, Times],
+) -> Iterator[str]:
+    """What is odd in sheets."""
+    for line in scenario_warnings(tables.scenario):
+        yield f"sheet shifts, contracts or nurses: {line}"
+    asked = {place.skill for sheet in sheets for place in sheet.requirements}
+    for line in (*history_warnings(tables.history), *skill_warnings(tables, asked)):
+        yield f"sheet nurses: {line}"
+    yield from (*book_warnings(book), *look_warnings(book, days), *ward_warnings(tables))
+    yield from unseen_warnings(book, days)
+    yield from cell_warnings(book, tables, days, sheets, times)
+    for line in (*plan_warnings(days, tables.scenario), *held_warnings(tables, sheets, days)):
+        yield f"sheet plan: {line}"
+    for line in week_of_row_warnings(table_of(book, "needs"), days):
+        yield f"sheet needs, {line}"
+
+
+def odd_weeks(
+    scenario: Scenario,
+    history: History,
+    weeks: Sequence[WeekData],
+    days_away: Counted,
+    days: PlanDays,
+) -> tuple[list[str], Reach]:
+    """What is odd in what weeks need, and what plans can reach."""
+    paid = [days_away.of_week(number) for number in range(len(weeks))]
+    odd: dict[Warned, list[int]] = together(
+        (line, number)
+        for number, data in enumerate(weeks)
+        for line in (
+            *week_warnings(scenario, data),
+            *demand_warnings(scenario, None if number else history, data, paid[number:]),
+        )
+    )
+    supply = list(supply_warnings(scenario, history, weeks))
+    lines = [f"sheet needs, {days.weeks_text(numbers)}: {line}" for line, numbers in odd.items()]
+    return [*lines, *(f"sheet needs: {line}" for line in supply)], reach_of([*odd, *supply])

@@ -1,10 +1,9 @@
 """The weeks of a ward, from the sheets needs and plan of a spreadsheet."""
 
 import re
-from typing import Dict, Iterator, List, NamedTuple, Optional, Set, Tuple
+from typing import NamedTuple
 
 from ..judging.obstacles import Obstacle, obstacles
-from ..week.facts import WORK_DAYS
 from ..week.faults import Gathering
 from ..week.records import (
     DAYS,
@@ -14,16 +13,13 @@ from ..week.records import (
     Request,
     Requirement,
     Scenario,
-    in_a_row,
-    in_plan,
 )
 from ..week.slots import MAX_NUMBER
 from ..week.words import readable
 from .plan_days import NO_WEEK, Days, week_of_row
 from .sheet_cells import SheetCell, about
 from .sheet_files import Book
-from .sheet_rows import SheetRow
-from .sheet_rows import Table
+from .sheet_rows import SheetRow, Table
 from .ward_sheets import WardTables, table_of
 
 # Reasons to be away: those that count as work, and those for which a contract does not run, as
@@ -71,16 +67,16 @@ class WeekSheet:
     their own, unlike those of all weeks."""
 
     def __init__(self) -> None:
-        self.requirements: Dict[Place, Requirement] = {}
-        self.wishes: List[Request] = []
-        self.absences: List[Absence] = []
-        self.held: List[Held] = []
-        self.reasons: Dict[Tuple[str, int], str] = {}
-        self.promised: Set[Tuple[str, int]] = set()
-        self.holidays: Set[int] = set()
+        self.requirements: dict[Place, Requirement] = {}
+        self.wishes: list[Request] = []
+        self.absences: list[Absence] = []
+        self.held: list[Held] = []
+        self.reasons: dict[tuple[str, int], str] = {}
+        self.promised: set[tuple[str, int]] = set()
+        self.holidays: set[int] = set()
 
 
-def read_weeks(book: Book, ward: WardTables, days: Days, faults: Gathering) -> List[WeekSheet]:
+def read_weeks(book: Book, ward: WardTables, days: Days, faults: Gathering) -> list[WeekSheet]:
     """The weeks of the sheets needs and plan."""
     weeks = [WeekSheet() for _ in range(days.weeks)]
     before = faults.number
@@ -102,9 +98,9 @@ def read_weeks(book: Book, ward: WardTables, days: Days, faults: Gathering) -> L
     return weeks
 
 
-def _plan_rows(days: Days, ward: WardTables, faults: Gathering) -> Dict[str, SheetRow]:
+def _plan_rows(days: Days, ward: WardTables, faults: Gathering) -> dict[str, SheetRow]:
     """The row of each nurse in the plan."""
-    rows: Dict[str, SheetRow] = {}
+    rows: dict[str, SheetRow] = {}
     for row in days.plan.rows:
         cell = row.of("nurse")
         nurse = ward.unknown.nurses.tried(
@@ -121,17 +117,17 @@ def _plan_rows(days: Days, ward: WardTables, faults: Gathering) -> Dict[str, She
 class _Asked(NamedTuple):
     """The row of the needs for a shift type and skill, in one week or in all (None)."""
 
-    week: Optional[int]
+    week: int | None
     shift: str
     skill: str
 
 
 def read_needs(
-    table: Table, ward: WardTables, days: Optional[Days], weeks: List[WeekSheet], faults: Gathering
+    table: Table, ward: WardTables, days: Days | None, weeks: list[WeekSheet], faults: Gathering
 ) -> None:
     """Rows without a week are for all weeks, but for the days that a row of one week has. If the
     days are not known, only what the rows have beside their week is looked at."""
-    given: Dict[_Asked, List[Tuple[SheetCell, Requirement]]] = {}
+    given: dict[_Asked, list[tuple[SheetCell, Requirement]]] = {}
     for row in table.rows:
         cells = [row.of(name.casefold()) for name in DAYS]
         numbers = [(cell, faults.tried(lambda: needed(cell), Requirement(0, 0))) for cell in cells]
@@ -164,7 +160,7 @@ def read_needs(
                     sheet.holidays.add(day)
 
 
-def _tried_week(cell: SheetCell, days: Optional[Days], faults: Gathering) -> Optional[int]:
+def _tried_week(cell: SheetCell, days: Days | None, faults: Gathering) -> int | None:
     """The week of a row; NO_WEEK if it has a fault, or the days are not known."""
     with faults.step():
         return week_of_row(cell, days) if days else NO_WEEK
@@ -217,7 +213,7 @@ def _read_day(
     nurse: str,
     index: int,
     scenario: Scenario,
-    weeks: List[WeekSheet],
+    weeks: list[WeekSheet],
     is_known: bool,
 ) -> None:
     """One cell of the plan: a wish, an absence, a promised day off, or a shift that is held, whose
@@ -309,7 +305,7 @@ def _shift_in(text: str, scenario: Scenario) -> str:
     )
 
 
-def check_held(ward: WardTables, weeks: List[WeekSheet]) -> None:
+def check_held(ward: WardTables, weeks: list[WeekSheet]) -> None:
     """A held shift may not follow one after which it is forbidden, nor break an absence."""
     last = {past.nurse: (past.last_shift, -1) for past in ward.history.nurses.values()}
     with Gathering() as faults:
@@ -324,7 +320,7 @@ def _check_held(
     week: WeekSheet,
     held: Held,
     day: int,
-    last: Dict[str, Tuple[Optional[str], int]],
+    last: dict[str, tuple[str | None, int]],
 ) -> None:
     """The same for one shift. `last` has the last shift of each nurse, and its day."""
     nurse = held.row.nurse
@@ -342,21 +338,3 @@ def _check_held(
             f"{readable(nurse)} never works this shift or is always off on this day, by the sheet"
             " nurses: change one of the two"
         )
-
-
-def held_warnings(ward: WardTables, weeks: List[WeekSheet], days: Days) -> Iterator[str]:
-    """Warnings of shifts that are held on more days in a row than a contract never exceeds."""
-    plan = days.plan_days
-    held = in_plan([shift.row for shift in week.held] for week in weeks)
-    for nurse, contract in (
-        (name, ward.scenario.contract_of(name)) for name in ward.scenario.nurses
-    ):
-        most = contract.working_days.maximum
-        rows = in_a_row([cell.day for cell in held if cell.nurse == nurse])
-        if WORK_DAYS in ward.kept[ward.scenario.nurses[nurse].contract]:
-            for row in (row for row in rows if len(row) > most):
-                what = (
-                    f"{nurse} has {len(row)} fixed shifts in a row, {plan.span(row)}, and never"
-                    f" works more than {most}"
-                )
-                yield f"{what}: take some of them out, or the sign ! from work max"

@@ -4,32 +4,12 @@ import re
 from dataclasses import dataclass, replace
 from functools import cached_property
 from pathlib import Path
-from typing import (
-    Collection,
-    Dict,
-    FrozenSet,
-    Iterable,
-    Iterator,
-    List,
-    Mapping,
-    NamedTuple,
-    Optional,
-    Sequence,
-    Tuple,
-)
+from typing import Collection, Iterable, Mapping, NamedTuple, Sequence
 
 from ..judging.absences import NO_SKILL, TooMany, with_requests
-from ..judging.demand import demand_warnings, supply_warnings
 from ..judging.leave import Counted, counted, credited
 from ..judging.limits import with_given
-from ..judging.odd_values import (
-    Reach,
-    Warned,
-    history_warnings,
-    reach_of,
-    scenario_warnings,
-    week_warnings,
-)
+from ..judging.odd_values import Reach
 from ..week.dates import PlanDays, Times
 from ..week.facts import Claim, DayAway, facts_text, reasons_text
 from ..week.faults import FileFault, FileFaults, Gathering
@@ -44,29 +24,25 @@ from ..week.records import (
     WeekData,
     in_plan,
     in_week,
-    together,
 )
 from ..week.slots import MAX_NUMBER
-from .odd_cells import cell_warnings
-from .odd_tables import book_warnings, skill_warnings, ward_warnings
+from .odd_tables import odd_sheets, odd_weeks
 from .employment import employed, with_changed_contracts
 from .open_shifts import OpenShift, lowered
 from .older_names import Names, Renamed
 from .period_row import without_period
-from .plan_days import Days, plan_warnings, read_days, week_of_row_warnings
+from .plan_days import Days, read_days
 from .plan_sheets import (
     COUNTED,
     NOT_EMPLOYED,
     WeekSheet,
     check_held,
-    held_warnings,
     read_needs,
     read_weeks,
 )
 from .sheet_cells import tidy
-from .sheet_facts import claims_of, look_warnings, with_part_contracts
+from .sheet_facts import claims_of, with_part_contracts
 from .sheet_files import Book, read_book
-from .unseen import unseen_warnings
 from .ward_sheets import NIGHT, WardTables, read_ward, shift_times, table_of
 from .week_rows import WeekRow, week_rows
 from .written_days import DayWord, lost_shifts, with_written
@@ -96,27 +72,27 @@ class Ward:
     past: History
     # The absences and the limits that hold, as facts; the needs and wishes of each week; and the
     # shifts that are fixed.
-    claims: Tuple[Claim, ...]
-    weeks: Tuple[WeekData, ...]
-    held: Tuple[Cell, ...]
+    claims: tuple[Claim, ...]
+    weeks: tuple[WeekData, ...]
+    held: tuple[Cell, ...]
     # Why nurses are away, the days off that were promised, and as what days away count.
     reasons: Mapping[NurseDay, str]
-    promised: FrozenSet[NurseDay]
+    promised: frozenset[NurseDay]
     counted: Counted
     times: Mapping[str, Times]
     # The days whose needs have numbers of their own, as bank holidays have, and the rows of the
     # needs that have a week.
-    holidays: FrozenSet[int]
+    holidays: frozenset[int]
     week_rows: Sequence[WeekRow]
     # The older names of nurses and shift types.
     was: Sequence[Renamed]
     book: Book
     # The shifts that nurses may not have at the end, since the next period hangs on the wall.
-    border: Tuple[Border, ...] = ()
+    border: tuple[Border, ...] = ()
     # The shift types of which nobody has more days in a row than their maximum.
-    kept_runs: FrozenSet[str] = frozenset()
+    kept_runs: frozenset[str] = frozenset()
     # The shifts that are left open, without which the minimum numbers of files are.
-    opened: Tuple[OpenShift, ...] = ()
+    opened: tuple[OpenShift, ...] = ()
 
     def with_absences(self, absences: Sequence[DayWord]) -> "Ward":
         """The ward of the same spreadsheet with other days away that verbs have written."""
@@ -125,7 +101,7 @@ class Ward:
         )
         return ward.with_border(self.border)
 
-    def with_border(self, border: Tuple[Border, ...]) -> "Ward":
+    def with_border(self, border: tuple[Border, ...]) -> "Ward":
         """The same with these shifts that nurses may not have at the end."""
         older, new = ([one.claim for one in ones] for ones in (self.border, border))
         claims = (claim for claim in self.claims if claim not in older)
@@ -142,11 +118,11 @@ class Ward:
         return replace(self, opened=tuple(opened))
 
     @cached_property
-    def texts(self) -> Dict[str, str]:
+    def texts(self) -> dict[str, str]:
         """The texts of the ward's files by their names, for `inrc2pb` and for people."""
         return self.texts_of([self.given(number) for number in range(len(self.weeks))])
 
-    def texts_of(self, weeks: Sequence[WeekData]) -> Dict[str, str]:
+    def texts_of(self, weeks: Sequence[WeekData]) -> dict[str, str]:
         """The same with these data of the weeks."""
         name = self.scenario.name
         why = {
@@ -165,7 +141,7 @@ class Ward:
             texts[f"fix-{number}.txt"] = solution_text(Solution(number, name, held))
         return texts
 
-    def with_requests(self) -> List[WeekData]:
+    def with_requests(self) -> list[WeekData]:
         """The data of the weeks with absences as requests. Raises FileFault if these are too
         many."""
         weeks = []
@@ -187,7 +163,7 @@ class Ward:
         return lowered(self.weeks[number], number, self.opened)
 
     @cached_property
-    def nights(self) -> FrozenSet[str]:
+    def nights(self) -> frozenset[str]:
         """The shift types of the night, which are known by their times, or else by their names."""
         return frozenset(
             name
@@ -201,11 +177,11 @@ class Ward:
         return self.counted.shifts
 
     @cached_property
-    def leaving(self) -> Dict[str, int]:
+    def leaving(self) -> dict[str, int]:
         """The day from which each nurse is gone to the end of the plan, if there is one."""
         gone = {place for place, word in self.reasons.items() if word in NOT_EMPLOYED}
         total = self.days.total
-        leaving: Dict[str, int] = {}
+        leaving: dict[str, int] = {}
         for nurse in dict.fromkeys(nurse for nurse, _ in sorted(gone)):
             first = total
             while NurseDay(nurse, first - 1) in gone:
@@ -233,7 +209,7 @@ def ward_name(path: Path) -> str:
     return re.sub("[(),= ]", "_", tidy(path.resolve().stem)) or "ward"
 
 
-def read_sheet(path: Path, name: Optional[str] = None, absences: Sequence[DayWord] = ()) -> Ward:
+def read_sheet(path: Path, name: str | None = None, absences: Sequence[DayWord] = ()) -> Ward:
     """The ward of a spreadsheet, which has this name, if it has one, with these days away in its
     plan. Raises FileFaults if sheets have mistakes, or more than files can have."""
     return ward_of(read_book(path), name or ward_name(path), absences)
@@ -244,7 +220,7 @@ def ward_of(
     name: str,
     absences: Sequence[DayWord] = (),
     reasons: Sequence[str] = COUNTED,
-    period: Optional[PlanDays] = None,
+    period: PlanDays | None = None,
     opened: Sequence[OpenShift] = (),
 ) -> Ward:
     """The ward of a period of a spreadsheet that was read, or of all its days. Absences for these
@@ -284,8 +260,10 @@ def ward_of(
         kept_runs=tables.kept_runs,
         opened=tuple(opened),
     )
-    odd, reach = _odd_weeks(ward)
-    warnings = [*_odd_sheets(written, days, tables, sheets, ward.times), *odd]
+    past = credited(ward.past, ward.counted)
+    data = [ward.given(number) for number in range(len(ward.weeks))]
+    odd, reach = odd_weeks(ward.scenario, past, data, ward.counted, ward.days)
+    warnings = [*odd_sheets(written, days, tables, sheets, ward.times), *odd]
     return replace(ward, warnings=warnings, reach=reach)
 
 
@@ -297,7 +275,7 @@ def _with_contracts(book: Book) -> Book:
         return book
 
 
-def _in_plan(weeks: Iterable[Mapping[Tuple[str, int], str]]) -> Dict[NurseDay, str]:
+def _in_plan(weeks: Iterable[Mapping[tuple[str, int], str]]) -> dict[NurseDay, str]:
     """The words of nurses' days of the plan, by those of each week."""
     return {
         NurseDay(nurse, WEEK_DAYS * number + day): word
@@ -306,7 +284,7 @@ def _in_plan(weeks: Iterable[Mapping[Tuple[str, int], str]]) -> Dict[NurseDay, s
     }
 
 
-def _holidays(sheets: Sequence[WeekSheet]) -> FrozenSet[int]:
+def _holidays(sheets: Sequence[WeekSheet]) -> frozenset[int]:
     """The days whose needs have numbers of their own, in weeks of which not all days have."""
     return frozenset(
         WEEK_DAYS * number + day
@@ -317,8 +295,8 @@ def _holidays(sheets: Sequence[WeekSheet]) -> FrozenSet[int]:
 
 
 def _claims(
-    book: Book, tables: WardTables, history: History, sheets: List[WeekSheet]
-) -> Tuple[Claim, ...]:
+    book: Book, tables: WardTables, history: History, sheets: list[WeekSheet]
+) -> tuple[Claim, ...]:
     """The absences and limits as facts. Raises FileFault if they are more than a file can have."""
     claims = claims_of(tables, history, sheets)
     if len(claims) > MAX_NUMBER:
@@ -329,49 +307,7 @@ def _claims(
     return tuple(claims)
 
 
-def _odd_sheets(
-    book: Book,
-    days: Days,
-    tables: WardTables,
-    sheets: List[WeekSheet],
-    times: Mapping[str, Times],
-) -> Iterator[str]:
-    """What is odd in sheets."""
-    for line in scenario_warnings(tables.scenario):
-        yield f"sheet shifts, contracts or nurses: {line}"
-    asked = {place.skill for sheet in sheets for place in sheet.requirements}
-    for line in (*history_warnings(tables.history), *skill_warnings(tables, asked)):
-        yield f"sheet nurses: {line}"
-    yield from (*book_warnings(book), *look_warnings(book, days), *ward_warnings(tables))
-    yield from unseen_warnings(book, days)
-    yield from cell_warnings(book, tables, days, sheets, times)
-    for line in (*plan_warnings(days, tables.scenario), *held_warnings(tables, sheets, days)):
-        yield f"sheet plan: {line}"
-    for line in week_of_row_warnings(table_of(book, "needs"), days):
-        yield f"sheet needs, {line}"
-
-
-def _odd_weeks(ward: Ward) -> Tuple[List[str], Reach]:
-    """What is odd in what weeks need, and what plans can reach."""
-    history = credited(ward.past, ward.counted)
-    datas = [ward.given(number) for number in range(len(ward.weeks))]
-    paid = [ward.counted.of_week(number) for number in range(len(datas))]
-    odd: Dict[Warned, List[int]] = together(
-        (line, number)
-        for number, data in enumerate(datas)
-        for line in (
-            *week_warnings(ward.scenario, data),
-            *demand_warnings(ward.scenario, None if number else history, data, paid[number:]),
-        )
-    )
-    supply = list(supply_warnings(ward.scenario, history, datas))
-    lines = [
-        f"sheet needs, {ward.days.weeks_text(numbers)}: {line}" for line, numbers in odd.items()
-    ]
-    return [*lines, *(f"sheet needs: {line}" for line in supply)], reach_of([*odd, *supply])
-
-
-def days_of(book: Book, period: Optional[PlanDays] = None) -> Days:
+def days_of(book: Book, period: PlanDays | None = None) -> Days:
     """The days of a period of the sheet plan. Raises their faults together with those of the other
     sheets."""
     try:

@@ -1,7 +1,7 @@
 """The ward and its first history, from the sheets shifts, contracts and nurses of a spreadsheet."""
 
 import re
-from typing import Collection, Dict, FrozenSet, List, NamedTuple, Optional, Sequence, Set, Tuple
+from typing import Collection, NamedTuple, Sequence
 
 from ..week.dates import Times, times_of
 from ..week.facts import SHIFTS, WEEKENDS, WORK_DAYS
@@ -12,8 +12,7 @@ from ..week.words import readable
 from .older_names import Renamed, older_names
 from .sheet_cells import KEPT, SheetCell, day_meant
 from .sheet_files import Book
-from .sheet_rows import SheetRow
-from .sheet_rows import Table
+from .sheet_rows import SheetRow, Table
 from .skill_names import SkillNames
 
 _WEEKDAYS = ("Monday", "Tuesday", "Wednesday", "Thursday", "Friday", "Saturday", "Sunday")
@@ -58,14 +57,14 @@ class WardTables(NamedTuple):
 
     scenario: Scenario
     history: History
-    never: Dict[str, Tuple[List[str], List[int]]]
-    kept: Dict[str, Set[str]]
-    skills: Dict[str, SheetCell]
+    never: dict[str, tuple[list[str], list[int]]]
+    kept: dict[str, set[str]]
+    skills: dict[str, SheetCell]
     unknown: "Unknown"
     # The older names of nurses and shift types.
     was: Sequence[Renamed]
     # The shift types whose maximum of days in a row is never exceeded.
-    kept_runs: FrozenSet[str] = frozenset()
+    kept_runs: frozenset[str] = frozenset()
 
 
 class Unknown(NamedTuple):
@@ -100,9 +99,9 @@ def read_ward(book: Book, name: str, weeks: int, faults: Gathering) -> WardTable
     skills = SkillNames(
         [cell.text for row in _rows(needs) for cell in [row.of("skill")] if cell.text]
     )
-    nurses: Dict[str, Nurse] = {}
-    past: Dict[str, NurseHistory] = {}
-    never: Dict[str, Tuple[List[str], List[int]]] = {}
+    nurses: dict[str, Nurse] = {}
+    past: dict[str, NurseHistory] = {}
+    never: dict[str, tuple[list[str], list[int]]] = {}
     of_nurses = faults
     for row in _rows(nurse_rows):
         before = faults.number
@@ -116,7 +115,7 @@ def read_ward(book: Book, name: str, weeks: int, faults: Gathering) -> WardTable
             of_shifts.tried(lambda: part.known("shift type", shift_types), "")
             for part in row.of("never").parts()
         ]
-        no_days: List[int] = []
+        no_days: list[int] = []
         off = faults.tried(lambda: _days_off(row.of("always off")), no_days)
         of_past = _past(row, nurse, shift_types, faults, of_shifts)
         if nurse and nurse not in nurses:
@@ -153,7 +152,7 @@ def read_ward(book: Book, name: str, weeks: int, faults: Gathering) -> WardTable
     )
 
 
-def _kept_runs(table: Table, faults: Gathering) -> FrozenSet[str]:
+def _kept_runs(table: Table, faults: Gathering) -> frozenset[str]:
     """The shift types whose maximum of days in a row is never exceeded."""
     for head, cell in table.kept.items():
         with faults.step():
@@ -167,7 +166,7 @@ def _kept_runs(table: Table, faults: Gathering) -> FrozenSet[str]:
     )
 
 
-def _rows(table: Optional[Table]) -> Sequence[SheetRow]:
+def _rows(table: Table | None) -> Sequence[SheetRow]:
     return table.rows if table else ()
 
 
@@ -188,7 +187,7 @@ def _check_number(table: Table, kind: str, number: int, most: int) -> None:
         table.fault(f"it has {number} {kind}, and a ward has 1 to {most}: correct the rows")
 
 
-def _days_off(cell: SheetCell) -> List[int]:
+def _days_off(cell: SheetCell) -> list[int]:
     """The days of the week that the cell names, with commas between."""
     names = {
         name.casefold(): day for day, full in enumerate(_WEEKDAYS) for name in (full, DAYS[day])
@@ -206,9 +205,9 @@ def _days_off(cell: SheetCell) -> List[int]:
     return days
 
 
-def _shift_types(table: Table, faults: Gathering) -> Tuple[Dict[str, ShiftType], Gathering]:
+def _shift_types(table: Table, faults: Gathering) -> tuple[dict[str, ShiftType], Gathering]:
     """The shift types, and where faults of names that are none of them go."""
-    names: Dict[str, SheetRow] = {}
+    names: dict[str, SheetRow] = {}
     before = faults.number
     for row in table.rows:
         cell = row.of("shift")
@@ -235,7 +234,7 @@ def _shift_type(
     return ShiftType(name, limits, tuple(dict.fromkeys(other for other in after if other)))
 
 
-def shift_times(book: Book) -> Dict[str, Times]:
+def shift_times(book: Book) -> dict[str, Times]:
     """When the shifts of each type begin and end, if the sheet has it for one of them."""
     cells = {
         row.of("shift").text.replace(" ", "_"): row.of("times")
@@ -243,7 +242,7 @@ def shift_times(book: Book) -> Dict[str, Times]:
     }
     if not any(cell.text for cell in cells.values()):
         return {}
-    times: Dict[str, Times] = {}
+    times: dict[str, Times] = {}
     with Gathering() as faults:
         for name, cell in cells.items():
             with faults.step():
@@ -256,11 +255,11 @@ def shift_times(book: Book) -> Dict[str, Times]:
 
 def _contracts(
     table: Table, faults: Gathering
-) -> Tuple[Dict[str, Contract], Dict[str, Set[str]], Gathering]:
+) -> tuple[dict[str, Contract], dict[str, set[str]], Gathering]:
     """The contracts, the kinds of maxima that each of them never exceeds, and where faults of names
     that are none of them go."""
-    contracts: Dict[str, Contract] = {}
-    kept: Dict[str, Set[str]] = {}
+    contracts: dict[str, Contract] = {}
+    kept: dict[str, set[str]] = {}
     unknown = faults
     for head, cell in table.kept.items():
         with faults.step():
@@ -337,7 +336,7 @@ def _is_yes(cell: SheetCell) -> bool:
 def _past(
     row: SheetRow,
     nurse: str,
-    shift_types: Dict[str, ShiftType],
+    shift_types: dict[str, ShiftType],
     faults: Gathering,
     unknown: Gathering,
 ) -> NurseHistory:

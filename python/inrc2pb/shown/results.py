@@ -7,8 +7,8 @@ from typing import Iterable, NamedTuple, Sequence
 from ..week.faults import Misuse, printable
 from ..week.slots import text_of
 
-# The content of a report: the penalty of a week or the sum of a period, the lower bound, and the words of
-# a proof.
+# The content of a report: the penalty of a week or the sum of a period, the lower bound, and the
+# words of a proof.
 _PENALTY = re.compile(r"^(?:penalty|period) +([0-9]+)\b", re.MULTILINE)
 _BOUND = re.compile(r"^lower bound ([0-9]+)\b", re.MULTILINE)
 _PROVED = re.compile(r"^(?:no roster|lower bound ).*costs less, proved$", re.MULTILINE)

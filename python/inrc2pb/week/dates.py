@@ -8,14 +8,14 @@ from typing import Collection, Iterator, NamedTuple, Sequence
 
 from .faults import Misuse
 from .records import DAYS, WEEK_DAYS, in_a_row, week_name
-from .slots import did_you_mean
-from .words import joined, plural, quoted
+
+from .words import joined, plural
 
 MONTHS = ("Jan", "Feb", "Mar", "Apr", "May", "Jun", "Jul", "Aug", "Sep", "Oct", "Nov", "Dec")
 DAY = datetime.timedelta(days=1)
 # A shift that lasts longer than this after midnight is a night shift.
 _NIGHT_ENDS = datetime.timedelta(hours=3)
-_TIMES = re.compile("([0-9]{1,2}:[0-9]{2}) ?[-\u2013] ?([0-9]{1,2}:[0-9]{2})")
+TIMES = re.compile("([0-9]{1,2}:[0-9]{2}) ?[-\u2013] ?([0-9]{1,2}:[0-9]{2})")
 _WEEKDAY = re.compile("(mon|tue|wed|thu|fri|sat|sun)[a-z]* ?([0-9]{1,2})?", re.IGNORECASE)
 _CALENDAR_WEEK = re.compile(r"(?:cw|kw|calendar week)\.? ?([0-9]{1,2})", re.IGNORECASE)
 _IN_WORDS = re.compile(
@@ -101,27 +101,6 @@ def date_without_year(text: str, monday: datetime.date) -> datetime.date | None:
     return date if date >= monday else written.date(monday.year + 1)
 
 
-def read_monday(text: str, weeks: int) -> datetime.date:
-    """The Monday with which so many weeks begin. Raises Misuse if the text is no Monday, written as
-    `2026-11-30`."""
-    try:
-        date = datetime.date.fromisoformat(text)
-        if str(date) != text:
-            raise ValueError
-    except ValueError:
-        raise Misuse(
-            f"--monday {text}: this is no date: give year, month and day, such as 2026-11-30"
-        ) from None
-    try:
-        date + (7 * weeks + 2) * DAY
-        monday = date - date.weekday() * DAY
-    except OverflowError:
-        raise Misuse(f"--monday {text}: give a date of this century, such as 2026-11-30") from None
-    if date != monday:
-        raise Misuse(f"--monday {text}: this is a {date:%A}: give a Monday, such as {monday}")
-    return date
-
-
 def day_names(monday: datetime.date | None, week: int) -> Sequence[str]:
     """The days of a week, counted from 0, as `Mon 30 Nov`, or as `Mon` if the date is not known."""
     if monday is None:
@@ -131,37 +110,10 @@ def day_names(monday: datetime.date | None, week: int) -> Sequence[str]:
     ]
 
 
-def read_times(texts: Sequence[str], shifts: Collection[str]) -> dict[str, Times]:
-    """The times of all shift types or of none, each given as `Early=06:00-14:15`. A shift that ends
-    before it begins ends a day later. Raises Misuse if a text has no times, or only some shift
-    types have them."""
-    by_shift: dict[str, Times] = {}
-    for text in texts:
-        shift, is_given, times = text.rpartition("=")
-        if not is_given or not _TIMES.fullmatch(times):
-            raise Misuse(
-                f"--times {text}: give a shift type, its start and its end, such as"
-                " Early=06:00-14:15"
-            )
-        if shift not in shifts:
-            advice = did_you_mean(shift, shifts, f"give one of {quoted(shifts)}")
-            raise Misuse(f"--times {text}: '{shift}' is no shift type: {advice}")
-        if shift in by_shift:
-            raise Misuse(f"--times {text}: {shift} has two times: give one")
-        by_shift[shift] = times_of(times, f"--times {text}")
-    missing = [shift for shift in shifts if shift not in by_shift]
-    if by_shift and missing:
-        raise Misuse(
-            f"--times has no times of {quoted(missing)}: give them too, such as --times"
-            f" {missing[0]}=06:00-14:15"
-        )
-    return by_shift
-
-
 def times_of(text: str, where: str) -> Times:
     """The times of a shift, given as `06:00-14:15`. Raises Misuse, which names `where`, if the text
     is otherwise."""
-    match = _TIMES.fullmatch(text)
+    match = TIMES.fullmatch(text)
     if not match:
         raise Misuse(
             f"{where}: '{text}' has no times: write when the shift begins and ends, such as"

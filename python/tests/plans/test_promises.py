@@ -13,7 +13,7 @@ from xml.etree import ElementTree
 from inrc2pb.plans import kept, pages, planning
 from inrc2pb.plans.needless_changes import without_needless_changes
 from inrc2pb.plans.exchanges import more_even
-from inrc2pb.plans.facts import broken_agreements
+from inrc2pb.plans.changes import broken_agreements
 from inrc2pb.plans.offers import offers_of
 from inrc2pb.plans.pages import Pages
 from inrc2pb.plans.searching import Asked, Keep
