@@ -17,7 +17,8 @@ A clause is guarded if one of these holds:
   edit      an edit of must-fail/ was refused at a goal that names it, as in `returns-clause-same`
   values    an edit was refused there only by an answer that no longer fits, and
             tests/pages/refused_by_answers.txt has values at which the goal is false
-  law       no body can break it, because its line in the list names a law that says it of all values
+  listed    its line in the list names a law that says it of all values, so that no body can break it,
+            or a proof of a caller that takes it under a name that several functions have
 
 A proof by search may use a clause without naming it, so a clause of without_guard.txt may well be
 needed: its line says by what. The goals of the edits are those of the record, crates/*/edits.txt.
@@ -41,7 +42,7 @@ from calls import Clause, Contract  # noqa: E402
 ROOT = Path(__file__).resolve().parents[2]
 LIST = ROOT / "tests" / "pages" / "without_guard.txt"
 ANSWERS = ROOT / "tests" / "pages" / "refused_by_answers.txt"
-GUARDS = ("equation", "proof", "edit", "values", "law", "nothing")
+GUARDS = ("equation", "proof", "edit", "values", "listed", "nothing")
 
 
 class Refused(NamedTuple):
@@ -91,7 +92,7 @@ def guard(
         return "edit"
     if is_refused(contract.clause, is_alone, refused.argued):
         return "values"
-    return "law" if ties.tie_of(reason) == "law" else "nothing"
+    return "listed" if ties.tie_of(reason) in ("law", "proof") else "nothing"
 
 
 def guards() -> Iterator[Tuple[Contract, str]]:
@@ -117,7 +118,7 @@ def differences(found: List[Tuple[Contract, str]]) -> Iterator[str]:
     listed = {
         str(one.clause): one.text
         for one, guard in found
-        if guard in ("law", "nothing")
+        if guard in ("listed", "nothing")
         or guard == "edit"
         and known.get(str(one.clause), "").startswith("edit ")
     }
@@ -132,7 +133,7 @@ def differences(found: List[Tuple[Contract, str]]) -> Iterator[str]:
 def write(found: List[Tuple[Contract, str]]) -> None:
     """Writes the list anew, with the reasons that it has."""
     known = ties.listed(LIST)
-    without = (str(one.clause) for one, guard in found if guard in ("law", "nothing"))
+    without = (str(one.clause) for one, guard in found if guard in ("listed", "nothing"))
     ties.write(LIST, {clause: known.get(clause, "") for clause in without})
 
 

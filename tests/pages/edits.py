@@ -30,7 +30,7 @@ PROMISE = re.compile(
     r"(?m)^ +ensures (\w+)? ?\{ ?((?:.(?!\n +(?:ensures|requires) |\n *\{))*.)", re.S
 )
 EXACT = re.compile(r"(let .*? in )?result(\.now)? ≡ ")
-# The words of a promise on the result of a call or on its content, which gets a name, or of no result.
+# What a promise says of the result of a call or of its content, which gets a name, or of no result.
 EQUATION = re.compile(
     r"(?:let .*? in )?(?:(?:If|On)(?:Ok|Err) result \((?:λ (\w+)\. )?)?([\w.]+) ≡ ([^→≡]*)$"
 )
@@ -89,8 +89,8 @@ def body_of(lines, head, indent):
         if (
             rest in ("{", "{}")
             or rest[:1].strip()
-            and rest.endswith((" {", " }"))
-            or rest.endswith(";")
+            and rest.endswith((" {", " }", ";"))
+            or rest.endswith(" };")
         ):
             break
     if not rest.endswith("{"):
