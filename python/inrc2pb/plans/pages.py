@@ -15,7 +15,7 @@ from ..week.faults import fault_line
 from ..week.own_files import is_own_file, own_bytes, without_link
 from ..week.records import WEEK_DAYS, NurseDay
 from ..week.words import readable
-from ..week.writing import write_own_text
+from ..week.writing import write_own_bytes, write_own_text
 from .facts import promised_days, sums
 from .left_open import all_open_lines
 from .sentences import beside_lines, exceeded_lines, working_lines
@@ -26,6 +26,7 @@ WALL = "wall.html"
 CALENDARS = "calendars"
 TABLES = "tables"
 WORKED = "worked.csv"
+SHEET = "roster.ods"
 # The name of the plan that a page shows, in its head.
 _PLAN = re.compile('<meta name="plan" content="([^"]*)"/>')
 _FROM = re.compile("from-[0-9]{4}-[0-9]{2}-[0-9]{2}")
@@ -175,6 +176,21 @@ def write_table(top: Path, text: str) -> tuple[Path, ...]:
     if is_own_file(path) and path.read_text(encoding="utf-8", errors="replace") == text:
         return ()
     write_own_text(path, text)
+    return (path,)
+
+
+def write_roster_sheet(top: Path, data: bytes) -> tuple[Path, ...]:
+    """Writes the spreadsheet of all plans; without plans there is none. Returns its path, if it has
+    other bytes now."""
+    path = top / TABLES / SHEET
+    without_link(path.parent)
+    if not data:
+        taken_away(path.parent, [SHEET])
+        return ()
+    path.parent.mkdir(exist_ok=True)
+    if is_own_file(path) and path.read_bytes() == data:
+        return ()
+    write_own_bytes(path, data)
     return (path,)
 
 

@@ -23,6 +23,7 @@ from .pages import Pages
 from .periods import past_plan
 from .plan_files import known_record, roster_name, state_texts
 from .reading import PlanReader, running
+from .roster_sheet import roster_sheet
 from .state import Record, Swap
 from .ward import WardPlan
 from .ward_folder import WardFolder
@@ -91,10 +92,15 @@ class PlanStore(PlanReader):
         table of what was worked that of all periods. They mark what differs from the plan that was
         hung up before. The plan with the record `undone` was taken back."""
         try:
-            written = [*self._page_after(undone), *self._worked_table(plan)]
-            gone: List[Path] = []
             top = self.folder.top
-            for one in (plan, *self._others(plan)):
+            plans = [plan, *self._others(plan)]
+            written = [
+                *self._page_after(undone),
+                *pages.write_roster_sheet(top, roster_sheet([*plans, *self._past()])),
+                *self._worked_table(plan),
+            ]
+            gone: List[Path] = []
+            for one in plans:
                 is_first = one.state.period <= running(self.periods())
                 done = pages.write_pages(
                     top,
@@ -118,6 +124,13 @@ class PlanStore(PlanReader):
             if period.number != plan.state.period and not period.is_over:
                 with contextlib.suppress(FileFault, FileFaults, Misuse):
                     yield self.plan_of(period.number)
+
+    def _past(self) -> Iterator[WardPlan]:
+        """The plans of the periods that are over, as far as they can be read."""
+        for period in self.periods():
+            if period.is_over:
+                with contextlib.suppress(FileFault, FileFaults, Misuse):
+                    yield past_plan(period, self.folder.ward())
 
     def _page_after(self, undone: Optional[Record]) -> Tuple[Path, ...]:
         """Writes the page of a period that is over, if the plan that was taken back was of it."""

@@ -6,6 +6,7 @@ import io
 from pathlib import Path
 from typing import Iterator, Sequence
 
+from ..sheets.ods_file import no_formula
 from ..sheets.ward import Ward
 from ..week.facts import read_reasons
 from ..week.faults import FileFault
@@ -17,8 +18,6 @@ from .periods import Period, kept_plans, periods_of, state_of
 from .plan_files import roster_name
 
 HEADS = ("nurse", "date", "shift type", "skill", "planned")
-# With one of these a spreadsheet takes a text for a formula.
-_FORMULA = ("=", "+", "-", "@")
 
 
 def worked_text(folders: Sequence[Path], ward: Ward) -> str:
@@ -75,7 +74,7 @@ def _rows(
             cell.skill if cell else "",
             was.shift if was else "",
         ]
-        nurse, shift, skill, plan = (_safe(readable(text)) for text in texts)
+        nurse, shift, skill, plan = (no_formula(readable(text)) for text in texts)
         yield nurse, str(period.days.date(place.day)), shift, skill, plan
 
 
@@ -87,8 +86,3 @@ def _cells(paths: Sequence[Path | None]) -> dict[NurseDay, Cell]:
             day = WEEK_DAYS * week + cell.day
             cells[NurseDay(cell.nurse, day)] = cell._replace(day=day)
     return cells
-
-
-def _safe(text: str) -> str:
-    """The text of a cell that no spreadsheet takes for a formula."""
-    return f"'{text}" if text.startswith(_FORMULA) else text

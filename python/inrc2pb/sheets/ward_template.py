@@ -2,15 +2,14 @@
 given."""
 
 import datetime
-import zipfile
 from pathlib import Path
 from typing import Dict, List, Sequence
-from xml.sax.saxutils import escape, quoteattr
 
 from ..week.dates import DAY, date_text
 from ..week.faults import Misuse
 from ..week.records import DAYS, WEEK_DAYS
 from ..week.writing import check_target
+from .ods_file import cell, sheet, write_sheets
 
 Rows = Sequence[Sequence[object]]
 
@@ -92,24 +91,6 @@ EXAMPLE: Dict[str, Rows] = {
         ("Grace", *_days("no Night on Tue", "", "", "")),
     ],
 }
-_TYPE = "application/vnd.oasis.opendocument.spreadsheet"
-_NAMES = ("office", "table", "text", "manifest", "style", "datastyle")
-_SPACES = " ".join(
-    f'xmlns:{name.replace("datastyle", "number")}='
-    f'"urn:oasis:names:tc:opendocument:xmlns:{name}:1.0"'
-    for name in _NAMES
-)
-# How a cell shows a date, as Mon 2026-11-30, and a column that is wide enough for it.
-_DATE_STYLE = (
-    '<style:style style:name="wide" style:family="table-column"><style:table-column-properties'
-    ' style:column-width="2.9cm"/></style:style>'
-    '<number:date-style style:name="days"><number:day-of-week/><number:text> </number:text>'
-    '<number:year number:style="long"/><number:text>-</number:text><number:month'
-    ' number:style="long"/><number:text>-</number:text><number:day'
-    ' number:style="long"/></number:date-style><style:style style:name="day"'
-    ' style:family="table-cell" style:data-style-name="days"/>'
-)
-_HEAD = '<?xml version="1.0" encoding="UTF-8"?>\n'
 
 
 def next_monday(today: datetime.date) -> datetime.date:
@@ -139,32 +120,10 @@ def write_template(path: Path, monday: datetime.date) -> None:
     if path.exists() or path.is_symlink():
         raise Misuse(f"{path}: there is such a file, perhaps with your ward: give another name")
     check_target(path)
-    manifest = f'<manifest:file-entry manifest:full-path="/" manifest:media-type="{_TYPE}"/>'
-    manifest += (
-        '<manifest:file-entry manifest:full-path="content.xml" manifest:media-type="text/xml"/>'
-    )
     sheets = "".join(_sheet(name, rows) for name, rows in dated_example(monday).items())
-    styles = f"<office:automatic-styles>{_DATE_STYLE}</office:automatic-styles>"
-    content = (
-        f"{styles}<office:body><office:spreadsheet>{sheets}</office:spreadsheet></office:body>"
-    )
     try:
-        with open(path, "xb") as file, zipfile.ZipFile(file, "w", zipfile.ZIP_DEFLATED) as archive:
-            archive.writestr(zipfile.ZipInfo("mimetype"), _TYPE)
-            archive.writestr(
-                "META-INF/manifest.xml",
-                (
-                    f"{_HEAD}<manifest:manifest"
-                    f' {_SPACES} manifest:version="1.3">{manifest}</manifest:manifest>'
-                ),
-            )
-            archive.writestr(
-                "content.xml",
-                (
-                    f"{_HEAD}<office:document-content"
-                    f' {_SPACES} office:version="1.3">{content}</office:document-content>'
-                ),
-            )
+        with open(path, "xb") as file:
+            write_sheets(file, sheets)
     except FileExistsError:
         raise
     except BaseException:
@@ -173,27 +132,5 @@ def write_template(path: Path, monday: datetime.date) -> None:
 
 
 def _sheet(name: str, rows: Rows) -> str:
-    columns = f'<table:table-column table:number-columns-repeated="{len(rows[0])}"/>'
-    if any(isinstance(cell, datetime.date) for cell in rows[0]):
-        columns = columns.replace("table:number", 'table:style-name="wide" table:number')
-    cells = "".join(map(_row, rows))
-    return f"<table:table table:name={quoteattr(name)}>{columns}{cells}</table:table>"
-
-
-def _row(cells: Sequence[object]) -> str:
-    return f"<table:table-row>{''.join(map(_cell, cells))}</table:table-row>"
-
-
-def _cell(value: object) -> str:
-    if value == "":
-        return "<table:table-cell/>"
-    if isinstance(value, datetime.date):
-        date = f'table:style-name="day" office:value-type="date" office:date-value="{value}"'
-        shown = f"{DAYS[value.weekday()]} {value}"
-        return f"<table:table-cell {date}><text:p>{shown}</text:p></table:table-cell>"
-    kind = (
-        f'office:value-type="float" office:value="{value}"'
-        if isinstance(value, int)
-        else 'office:value-type="string"'
-    )
-    return f"<table:table-cell {kind}><text:p>{escape(str(value))}</text:p></table:table-cell>"
+    dates = sum(isinstance(head, datetime.date) for head in rows[0])
+    return sheet(name, [list(map(cell, row)) for row in rows], dates)

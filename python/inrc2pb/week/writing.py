@@ -60,9 +60,14 @@ def replacing(path: PathLike) -> Iterator[TextIO]:
 def write_own_text(path: Path, text: str) -> None:
     """Writes a text to a file of a folder that others may write too: it takes the place of a
     link."""
+    write_own_bytes(path, text.encode("utf-8", errors="surrogateescape"))
+
+
+def write_own_bytes(path: Path, data: bytes) -> None:
+    """The same for bytes."""
     try:
         with replacing_link(path) as file:
-            file.write(text)
+            file.buffer.write(data)
     except OSError as fault:
         fault.filename = str(path)
         fault.filename2 = None

@@ -330,11 +330,7 @@ class Formats(HelperTest):
             ' style:name="red"><style:table-cell-properties'
             ' fo:background-color="#ff0000"/></style:style>'
         )
-        space = ' xmlns:fo="urn:oasis:names:tc:opendocument:xmlns:xsl-fo-compatible:1.0"'
-        content = [
-            ("<office:document-content", f"<office:document-content{space}"),
-            ("<office:automatic-styles>", style),
-        ]
+        content = [("<office:automatic-styles>", style)]
         content += [
             (
                 "<text:p>training</text:p>",
