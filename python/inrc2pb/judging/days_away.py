@@ -8,16 +8,17 @@ from ..week.records import History, NurseDay, Scenario, in_a_row
 
 
 class DaysAway(NamedTuple):
-    """The days of `training` count as work in a row, and on the day before each of `free` nobody
-    should have a shift type of `nights`, which end on the next day. Of the shift types of `kept`
-    nobody should have more days in a row than their maximum. Days count from the first Monday of
-    the plan; those before `fixed` do not change.
-    """
+    """Days away that concern the days beside them, counted from the first Monday of the
+    plan."""
 
+    # Days that count as work in a row.
     training: frozenset[NurseDay] = frozenset()
+    # Days before which nobody should have one of these shift types, which end on the next day.
     free: frozenset[NurseDay] = frozenset()
     nights: frozenset[str] = frozenset()
+    # Days before this one do not change.
     fixed: int = 0
+    # The shift types of which nobody should have more days in a row than their maximum.
     kept: frozenset[str] = frozenset()
 
     @property

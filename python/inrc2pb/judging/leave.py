@@ -125,12 +125,14 @@ def credited(history: History, days_away: Counted) -> History:
 
 
 class PartContract(NamedTuple):
-    """The contract that a nurse's own one is a part of, the days on which it counts, those of the
-    period (0: it counts on all of them), and whether there is no maximum of days off."""
+    """A contract that is a part of another one."""
 
+    # The other one.
     whole: str
+    # The days on which it counts, and those of the period; 0: it counts on all of them.
     days: int = 0
     total: int = 0
+    # Whether there is no maximum of days off.
     any_days_off: bool = False
 
     @property

@@ -27,21 +27,20 @@ Shifts = dict[tuple[str, int], list[str]]
 
 
 class Charge(NamedTuple):
-    """What a soft rule charges: something that occurs a number of times, and the weight of each
-    time.
-
-    The nurse is None for a place with too few nurses, and `subject` names the place or the shift
-    type, if there is one. `days` are the first and the last day of this week that it concerns; None
-    for days before Monday only, and for the totals of a period. The rule compares `number` with
-    `limit`; `before` is the part of it from before Monday.
-    """
+    """What a soft rule charges: something that occurs a number of times."""
 
     rule: str
     what: str
+    # None for a place with too few nurses.
     nurse: str | None
+    # The points of each time.
     weight: int
+    # The place or the shift type, if there is one.
     subject: str = ""
+    # The first and the last day of this week that it concerns; None for days before Monday
+    # only, and for the totals of a period.
     days: tuple[int, int] | None = None
+    # What the rule compares with the limit, and the part of it from before Monday.
     number: int = 0
     limit: int = 0
     before: int = 0

@@ -15,17 +15,18 @@ NEVER = 1 << 50
 
 
 class RunState(NamedTuple):
-    """The runs that are open at the end of a day, and the choice of that day. `trained` is the run
-    of days with work and training, if it has training, and `is_due` says that no day of it could
-    have been off. If `is_called`, a choice differs from that of an older row.
-    """
+    """The runs that are open at the end of a day."""
 
+    # The choice of that day.
     choice: int
     shift_run: int
     work_run: int
     off_run: int
+    # The run of days with work and training, if it has training, and whether no day of it could
+    # have been off.
     trained: int = 0
     is_due: bool = False
+    # Whether a choice differs from that of an older row.
     is_called: bool = False
 
 
@@ -34,20 +35,20 @@ ANY_CHOICE = 255
 
 
 class Beside(NamedTuple):
-    """A nurse's days away that concern the days beside them: those of training, which is work in a
-    row, and those before which she should have none of these shift types. Of the shift types of
-    `kept` she should have no more days in a row than their maximum. Each day that is otherwise
-    costs so much, in points; days before `fixed` do not change. A row that differs from the older
-    one costs `call` points.
-    """
+    """A nurse's days away that concern the days beside them."""
 
+    # Days of training, which is work in a row.
     training: frozenset[int] = frozenset()
+    # Days before which she should have none of these shift types.
     free: frozenset[int] = frozenset()
     nights: frozenset[str] = frozenset()
+    # What each day costs that is otherwise, in points; days before `fixed` do not change.
     cost: int = 0
     fixed: int = 0
+    # An older row, and what one that differs from it costs, in points.
     older: bytes = b""
     call: int = 0
+    # The shift types of which she should have no more days in a row than their maximum.
     kept: frozenset[str] = frozenset()
 
 

@@ -52,23 +52,26 @@ summary { font-weight: 600; padding: .3em 0 }
 
 
 class Shown(NamedTuple):
-    """What a page shows beside the plan: what was said, the cell that was clicked, the form that
-    asks whether to write, the fields of the last form, the path of the spreadsheet, the pages of
-    weeks that are over with their texts, the name of the ward, the seconds of a search, if they are
-    not the usual ones, what the folder had when the page was made, the verb that has made the plan,
-    the lines that are shown with a question, and those that say why a form of this page was
-    refused."""
+    """What a page shows beside the plan."""
 
     said: Said
+    # The cell that was clicked.
     place: Optional[NurseDay] = None
+    # The form that asks whether to write, and the fields of the last form.
     asks: Fields = {}
     kept: Fields = {}
+    # The path of the spreadsheet.
     spreadsheet: str = ""
+    # The pages of weeks that are over, with their texts.
     worked: Mapping[str, str] = {}
+    # The name of the ward.
     name: str = "Ward"
+    # The seconds of a search, if they are not the usual ones.
     seconds: Optional[float] = None
+    # What the folder had when the page was made, and the verb that has made the plan.
     seen: str = ""
     made: str = ""
+    # The lines that are shown with a question, and those that say why a form was refused.
     lines: Sequence[str] = ()
     refused: Sequence[str] = ()
     # The swap that was written for the cell that was clicked.

@@ -39,26 +39,28 @@ class Broken(NamedTuple):
 
 
 class TooMany(NamedTuple):
-    """A nurse's shifts of the period, with those for days away; the most by the spreadsheet, and
-    the most that a search keeps. `last` is the last day from which a plan can take the others away,
-    if there is one."""
+    """A nurse who has too many shifts in the period."""
 
     nurse: str
+    # Her shifts, with those for days away.
     shifts: int
+    # The most by the spreadsheet, and the most that a search keeps.
     most: int
     kept: int
+    # The last day from which a plan can take the others away, if there is one.
     last: int | None
 
 
 class Beside(NamedTuple):
-    """What is wrong beside days away of a nurse: too many days in a row with work and training, of
-    which the contract has `most` with work, or a shift of the night before a day away with this
-    word. Or a shift on more days in a row than the `most` that holds."""
+    """What is wrong beside days away of a nurse, or a shift on too many days in a row."""
 
     nurse: str
     days: tuple[int, int]
+    # Days in a row with work and training, and the most with work of her contract, or with the
+    # shift.
     number: int = 0
     most: int = 0
+    # The shift of these days, or of the night before a day away with this word.
     shift: str = ""
     word: str = ""
 

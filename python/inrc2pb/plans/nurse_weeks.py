@@ -30,18 +30,22 @@ class Above(NamedTuple):
 
 
 class Fault(NamedTuple):
-    """Why a nurse cannot have some shifts: on a day, a word for why she is away, a shift type or a
-    skill, and the shift type before it; or what she has above limits, or what is wrong beside her
-    days away; or the place that she leaves, and its minimum number; or what was promised to her."""
+    """Why a nurse cannot have some shifts."""
 
     kind: Obstacle
     nurse: str
     day: int = 0
+    # A word for why she is away, a shift type, a skill or a place, and the shift type before
+    # it.
     what: str = ""
     before: str = ""
+    # What she has above limits.
     above: tuple[Above, ...] = ()
+    # What is wrong beside her days away.
     beside: Beside | None = None
+    # The minimum number of the place that she leaves.
     number: int = 0
+    # What was promised to her.
     promise: SetDay | None = None
 
     @property

@@ -13,14 +13,15 @@ from ..week.records import WEEK_DAYS, Cell, History, NurseDay, in_week
 
 
 class SetDay(NamedTuple):
-    """A nurse's day whose shift, or day off, was set: it is promised to her, and later plans and
-    swaps keep it until it is taken back. `reason` is what was written with it, or empty; `shift` is
-    empty for a day off, and None in the file of an older version, which has it in the roster
-    only."""
+    """A nurse's day whose shift, or day off, was set: it is promised to her, and later plans
+    and swaps keep it until it is taken back."""
 
     nurse: str
     day: int
+    # What was written with it, or empty.
     reason: str = ""
+    # Empty for a day off, and None in the file of an older version, which has it in the roster
+    # only.
     shift: Optional[str] = ""
     skill: str = ""
 

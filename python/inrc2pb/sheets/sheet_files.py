@@ -52,18 +52,20 @@ _DAMAGED = (
 
 
 class Book(NamedTuple):
-    """The sheets by their names in small letters, the numbers of their hidden rows, the cells with
-    a look that may mean something, and the day with the number 0, if the file has dates as numbers.
-    `columns` has the hidden columns, counted from 0, `merged` the cells that are one, and
-    `concealed` the names of hidden sheets."""
+    """A spreadsheet that was read: its sheets are named in small letters."""
 
     path: Path
     sheets: Dict[str, Rows]
+    # The numbers of hidden rows.
     hidden: Mapping[str, Sequence[int]] = {}
+    # The cells with a look that may mean something.
     marks: Mapping[str, Marks] = {}
+    # The day with the number 0, if the file has dates as numbers.
     day_zero: datetime.date = datetime.date(1899, 12, 30)
+    # The hidden columns, counted from 0, and the cells that are one.
     columns: Mapping[str, Sequence[int]] = {}
     merged: Mapping[str, Sequence[Merged]] = {}
+    # The names of hidden sheets.
     concealed: Collection[str] = ()
 
 

@@ -41,7 +41,6 @@ HEADS = {
     "needs": (("shift", "skill", *(day.casefold() for day in DAYS)), ("week",)),
 }
 
-
 # Words with a meaning of their own in cells and files, so no shift type has such a name.
 OWN_WORDS = ("none", "any", "off", "wish", "away", "ill", "leave", "unpaid", "training")
 # The maxima of a contract that may be never exceeded, by their columns.

@@ -19,35 +19,36 @@ HOLIDAY_MEANING = "other numbers of nurses are needed, as on a bank holiday"
 
 @dataclass(frozen=True)
 class Content:
-    """What a page shows: the roster, an older one, the date of the first Monday, and the times of
-    shift types, as far as they are known.
-
-    `only_table` is for a wall: nothing on what the roster costs, nor on wishes and held shifts.
-    `link` has the address of a nurse's day in a week of the table, if its cells are links. `name`
-    is that of the ward for people, if the roster's own one is not, and `since` says which the older
-    roster is. `holidays` are days from the first Monday on with numbers of their own, as bank
-    holidays have, `as_of` says when the page was made, `notes` are lines on what to look at,
-    `opened` lines on shifts that are left open, `swapped` has the weeks of the table, nurses and
-    days of swaps that were written, `promised` those of days that were promised, and `plan` is the
-    name of the plan of a ward's folder that the page shows. `sums` has what each nurse has in the
-    whole period, and `all_sums` in that and all earlier ones of the folder, if there are some.
-    """
+    """What a page shows."""
 
     view: RosterView
+    # An older roster.
     old: RosterView | None = None
+    # The date of the first Monday, and the times of shift types, as far as they are known.
     monday: datetime.date | None = None
     times: Mapping[str, Times] = field(default_factory=dict)
+    # For a wall: nothing on what the roster costs, nor on wishes and held shifts.
     only_table: bool = False
+    # The address of a nurse's day in a week of the table, if its cells are links.
     link: Callable[[int, str, int], str] | None = None
+    # The name of the ward for people, if the roster's own one is not, and which the older
+    # roster is.
     name: str = ""
     since: str = "the older roster"
+    # Days from the first Monday on with numbers of their own, as bank holidays have.
     holidays: Collection[int] = ()
+    # When the page was made.
     as_of: datetime.datetime | None = None
+    # Lines on what to look at, and on shifts that are left open.
     notes: Sequence[str] = ()
     opened: Sequence[str] = ()
+    # The weeks of the table, nurses and days of swaps that were written, and of promised days.
     swapped: Collection[tuple[int, str, int]] = ()
     promised: Collection[tuple[int, str, int]] = ()
+    # The name of the plan of a ward's folder that the page shows.
     plan: str = ""
+    # What each nurse has in the whole period, and in that and all earlier ones of the folder,
+    # if there are some.
     sums: Mapping[str, Sums] = field(default_factory=dict)
     all_sums: Mapping[str, Sums] = field(default_factory=dict)
 

@@ -21,16 +21,17 @@ class Wish(NamedTuple):
 
 
 class Totals(NamedTuple):
-    """A nurse's shifts and weekends in the period until now, with the limits of her contract; her
-    shifts of each type and her wishes in the weeks of the table. `away` of the shifts are days away
-    that count as work."""
+    """A nurse's totals in a table."""
 
+    # Her shifts and weekends in the period until now, with the limits of her contract.
     shifts: int
     contract: Limits
     weekends: int
     max_weekends: int
+    # Her shifts of each type and her wishes in the weeks of the table.
     by_shift: dict[str, int]
     wishes: Sequence[Wish]
+    # The shifts among them that are days away that count as work.
     away: int = 0
 
     @property
@@ -109,15 +110,17 @@ def worked(view: RosterView) -> dict[str, list[int]]:
 
 
 class Sums(NamedTuple):
-    """What a nurse has in one or more periods: her shifts, with those as which days away count, the
-    hours of both, which are none if times are not known, her nights, her weekends with work, her
-    wishes, and how many of these are granted."""
+    """What a nurse has in one or more periods."""
 
+    # Her shifts, with those as which days away count, and the hours of both, which are none if
+    # times are not known.
     shifts: int = 0
     hours: datetime.timedelta = datetime.timedelta()
     nights: int = 0
+    # Her weekends with work.
     weekends: int = 0
     wishes: int = 0
+    # How many of her wishes are granted.
     granted: int = 0
 
     def plus(self, other: "Sums") -> "Sums":

@@ -34,13 +34,15 @@ DaysText = Callable[[Collection[int]], str]
 
 
 class DescribedWeek(NamedTuple):
-    """A week to be described: its number, its data, why nurses are away on its days, as far as that
-    is known, its held shifts, and its name if it has one beside its number."""
+    """A week to be described."""
 
     number: int
     data: WeekData
+    # Why nurses are away on its days, as far as that is known.
     reasons: Mapping[tuple[str, int], str] = {}
+    # Its held shifts.
     held: Sequence[Cell] = ()
+    # Its name, if it has one beside its number.
     name: str = ""
 
 

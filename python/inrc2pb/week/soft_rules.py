@@ -21,15 +21,17 @@ class Form(enum.Enum):
 
 
 class Rule(NamedTuple):
-    """A soft rule: its name, the points of each time, what it charges, the form of its charges, why
-    a nurse's days away have a part in them (no text, if they have none), and a word for what they
-    count."""
+    """A soft rule."""
 
     name: str
+    # The points of each time.
     weight: int
+    # What it charges, and the form of its charges.
     words: str
     form: Form
+    # Why a nurse's days away have a part in them; no text, if they have none.
     away: str
+    # A word for what they count.
     counts: str = ""
 
 
