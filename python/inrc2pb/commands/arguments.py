@@ -163,7 +163,7 @@ def parser(description: str, epilog: str | None = None, verb: str = "") -> Parse
     return options
 
 
-def table_of(verbs: Mapping[str, str]) -> str:
+def verbs_table(verbs: Mapping[str, str]) -> str:
     """Verbs and what they do, a line for each, for the help."""
     width = max(map(len, verbs))
     return "\n".join(f"  {usage:{width}}  {text}" for usage, text in verbs.items())

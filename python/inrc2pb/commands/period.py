@@ -26,7 +26,7 @@ from ..week.writing import check_inputs_stay, check_no_pipe_is_written, check_no
 from .arguments import as_typed
 
 
-class Period:
+class PeriodRun:
     """A period that is planned: its reports by the histories' numbers of weeks, in order, and the
     lines about its lower bound.
 

@@ -25,7 +25,7 @@ from ..programs.secrets_file import kept_secret
 from ..sheets.plan_sheets import AWAY, COUNTED
 from ..week.faults import Misuse
 from . import ward
-from .arguments import Parser, check_verb, options_first, parser, table_of
+from .arguments import Parser, check_verb, options_first, parser, verbs_table
 from .week_options import check_seconds, number_of_seconds
 
 # What the help says of the verbs: those of a folder's plan, and others before and after them.
@@ -57,7 +57,7 @@ def _options() -> Parser:
     options = parser(
         (
             "Plans a ward from one folder: its spreadsheet, and what verbs have made of"
-            f" it.\n\n{table_of(_HELP)}"
+            f" it.\n\n{verbs_table(_HELP)}"
         ),
         (
             "A day is Fri (the next one of the plan), Fri 2 (that of week 2), or a date. A name may"

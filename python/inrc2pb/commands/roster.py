@@ -11,16 +11,16 @@ from ..judging.demand import can_work
 from ..judging.next_history import next_history
 from ..programs.program import BROKEN_RULE, WeekFiles
 from ..search.improving import read_week_given
-from ..shown.changes import swapped
-from ..shown.results import read_results, table
+from ..shown.changes import with_swaps
+from ..shown.results import read_results, results_table
 from ..shown.roster_files import RosterFiles, read_old, read_view
 from ..shown.roster_view import RosterView
-from ..shown.why import change_lines, why_lines
+from ..shown.why import difference_lines, why_lines
 from ..week.faults import Misuse
 from ..week.files import history_text, read_history, read_scenario, read_solution
 from ..week.records import DAYS, Place, Week
 from . import check, names, referee, show
-from .arguments import Parser, check_verb, parser, table_of
+from .arguments import Parser, check_verb, parser, verbs_table
 from .week_options import add_given_option, add_weeks_options, fix_files
 from .show import lines_text, warn, write_result
 
@@ -96,7 +96,7 @@ def _why(given: argparse.Namespace) -> int:
     view = read_view(files)
     if not given.old:
         return _explain(given, view, list(why_lines(view)))
-    return _explain(given, view, list(change_lines(read_old(files, given.old), view)))
+    return _explain(given, view, list(difference_lines(read_old(files, given.old), view)))
 
 
 def _swap(given: argparse.Namespace) -> int:
@@ -105,8 +105,8 @@ def _swap(given: argparse.Namespace) -> int:
             f'"{given.days[-1]}" has no second day: give pairs, as in "Chen Fri" "Grace Fri"'
         )
     view = read_view(_roster_files(given))
-    new = swapped(view, list(zip(given.days[::2], given.days[1::2])))
-    return _explain(given, new, list(change_lines(view, new)))
+    new = with_swaps(view, list(zip(given.days[::2], given.days[1::2])))
+    return _explain(given, new, list(difference_lines(view, new)))
 
 
 def _explain(given: argparse.Namespace, view: RosterView, lines: Sequence[str]) -> int:
@@ -227,7 +227,7 @@ def _results_options() -> Parser:
 
 
 def _results(given: argparse.Namespace) -> int:
-    print("\n".join(table(read_results(given.reports, given.joblog))))
+    print("\n".join(results_table(read_results(given.reports, given.joblog))))
     return 0
 
 
@@ -252,7 +252,7 @@ VERBS = {
 
 
 def _help() -> Parser:
-    purposes = table_of({name: verb.purpose for name, verb in VERBS.items()})
+    purposes = verbs_table({name: verb.purpose for name, verb in VERBS.items()})
     options = parser(
         f"Shows, explains and checks rosters, and goes on from them.\n\n{purposes}",
         (

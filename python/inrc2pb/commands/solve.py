@@ -27,7 +27,7 @@ from .week_options import (
     number_of_seconds,
     the_week,
 )
-from .period import Period
+from .period import PeriodRun
 
 # The seconds of a search for several weeks, for each of them.
 WEEK_SECONDS = 60.0
@@ -158,7 +158,7 @@ def _several_weeks(given: argparse.Namespace) -> int:
         ahead=given.ahead,
         given=given.facts,
     )
-    period = Period(files, given.out, given.proof, given.seed, given.roster)
+    period = PeriodRun(files, given.out, given.proof, given.seed, given.roster)
     with interrupts() as signals, signals.ending(), period.locked(given.wait):
         period.name_replaced()
         try:

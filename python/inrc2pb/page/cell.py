@@ -12,7 +12,7 @@ from ..plans.ward import ALWAYS_OFF, DAYS_OFF, PROMISED, WardPlan
 from ..sheets.plan_sheets import AWAY
 from ..sheets.written_days import BACK
 from ..shown.markup import Markup, element, joined
-from ..shown.why import in_words
+from ..shown.why import charge_text
 from ..week.dates import day_names
 from ..week.records import WEEK_DAYS, Cell, NurseDay, Place
 from ..week.words import OFF, readable
@@ -280,7 +280,7 @@ class Actions:
         if not charged:
             return element("p", "Nothing is charged to her in this week.")
         items = [
-            element("li", readable(f"{charge.cost} points: {in_words(charge, False, names)}"))
+            element("li", readable(f"{charge.cost} points: {charge_text(charge, False, names)}"))
             for charge in charged
         ]
         return joined(element("p", "Her week costs:"), element("ul", *items))

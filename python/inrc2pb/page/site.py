@@ -7,7 +7,7 @@ from typing import Dict, List, NamedTuple, Optional, Sequence, Tuple
 from urllib.parse import quote, urlencode, urlsplit
 
 from ..plans.kept import Kept
-from ..plans.pages import CALENDARS, own_calendars, roster_content, ward_name
+from ..plans.pages import CALENDARS, own_calendars, roster_content, shown_name
 from ..plans.verbs.set_day import DaySet
 from ..plans.verbs.swap import Swapped
 from ..plans.ward import WardPlan
@@ -60,7 +60,7 @@ class Site:
         # The first day of the period that is shown, if that is not the one that runs.
         self._period = period
         self._views: Dict[str, Site] = {}
-        self.name = ward_name(jobs.folder.top)
+        self.name = shown_name(jobs.folder.top)
         self._kept = Kept[WardPlan]()
         # The last plan that was shown, and its roster.
         self._shown: Optional[Tuple[WardPlan, Roster]] = None

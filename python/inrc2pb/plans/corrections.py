@@ -12,7 +12,7 @@ from ..week.records import WEEK_DAYS, Cell, NurseDay
 from ..week.words import readable
 from .absence import Away, lost_by
 from .changes import shift_changes
-from .facts import broken
+from .facts import breaks
 from .left_open import worked_open
 from .sentences import broken_text, change_lines, days_away_lines
 from .verb import Event, cell_of
@@ -51,9 +51,9 @@ class Corrections(NamedTuple):
         return [*said, *by_hand, *(cure if by_hand else [])]
 
     def _newly_broken(self, week: int) -> list[str]:
-        known = broken(self.old, week)
+        known = breaks(self.old, week)
         return [
-            broken_text(self.new, fault) for fault in broken(self.new, week) if fault not in known
+            broken_text(self.new, fault) for fault in breaks(self.new, week) if fault not in known
         ]
 
 
@@ -127,8 +127,8 @@ def follow_lines(before: WardPlan, now: WardPlan) -> list[str]:
     that are too many."""
     if not (now.is_planned and now.weeks):
         return []
-    faults = [fault for number in now.weeks for fault in broken(now, number)]
-    known = [fault for number in now.weeks for fault in broken(before, number)]
+    faults = [fault for number in now.weeks for fault in breaks(now, number)]
+    known = [fault for number in now.weeks for fault in breaks(before, number)]
     said = [broken_text(now, fault) for fault in faults]
     if any(fault not in known for fault in faults):
         said.append(

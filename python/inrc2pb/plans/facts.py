@@ -38,7 +38,7 @@ class Broken(NamedTuple):
     above: tuple[Charge, ...] = ()
 
 
-class TooMany(NamedTuple):
+class TooManyShifts(NamedTuple):
     """A nurse who has too many shifts in the period."""
 
     nurse: str
@@ -51,7 +51,7 @@ class TooMany(NamedTuple):
     last: int | None
 
 
-class Beside(NamedTuple):
+class WrongBeside(NamedTuple):
     """What is wrong beside days away of a nurse, or a shift on too many days in a row."""
 
     nurse: str
@@ -106,7 +106,7 @@ def while_away(plan: WardPlan) -> int:
     return sum(len(missed.working) for missed in unkept(plan))
 
 
-def broken(plan: WardPlan, number: int) -> list[Broken]:
+def breaks(plan: WardPlan, number: int) -> list[Broken]:
     """The hard rules and limits that hold that a week of the plan breaks."""
     week = plan.week(number)
     cells = plan.state.roster(number)
@@ -124,11 +124,11 @@ def exceeded_in_weeks(plan: WardPlan) -> Iterator[tuple[int, Charge]]:
         yield from ((number, charge) for charge in charged if charge.rule != _TOTAL)
 
 
-def too_many_shifts(plan: WardPlan) -> list[TooMany]:
+def too_many_shifts(plan: WardPlan) -> list[TooManyShifts]:
     """The nurses whose shifts exceed limits that hold, by the spreadsheet, if there is a plan."""
     if not plan.weeks or not plan.is_planned:
         return []
-    too_many: list[TooMany] = []
+    too_many: list[TooManyShifts] = []
     for (fact, _), (kept, _) in zip(plan.ward.claims, plan.limits):
         if (
             isinstance(fact, Charged)
@@ -141,7 +141,7 @@ def too_many_shifts(plan: WardPlan) -> list[TooMany]:
             most = contract + fact.most
             if shifts > most:
                 too_many.append(
-                    TooMany(
+                    TooManyShifts(
                         fact.nurse,
                         shifts,
                         most,
@@ -163,7 +163,7 @@ def _last_to_take(plan: WardPlan, nurse: str, number: int) -> int | None:
     return free[-number] if len(free) >= number else None
 
 
-def too_many_by_days_away(plan: WardPlan) -> list[TooMany]:
+def too_many_by_days_away(plan: WardPlan) -> list[TooManyShifts]:
     """Those whose shifts are too many only since days away count as shifts."""
     return [many for many in too_many_shifts(plan) if many.shifts <= many.kept]
 
@@ -212,22 +212,22 @@ def _exceeded(plan: WardPlan) -> dict[_Exceeded, int]:
     return exceeded_by
 
 
-def beside_days_away(plan: WardPlan) -> list[Beside]:
+def beside_days_away(plan: WardPlan) -> list[WrongBeside]:
     """What is wrong beside days away in the weeks that are not over."""
     return beside_of(plan, plan.days_away, plan.shifts) if plan.weeks else []
 
 
-def beside_of(plan: WardPlan, away: DaysAway, shifts: Mapping[NurseDay, str]) -> list[Beside]:
+def beside_of(plan: WardPlan, away: DaysAway, shifts: Mapping[NurseDay, str]) -> list[WrongBeside]:
     """The same with these days away and shift types, both by the days from the first one that is
     not over."""
     first = plan.first
     rows = long_rows(plan.scenario, plan.past, away, shifts)
     odd = [
-        Beside(row.nurse, (first + row.days[0], first + row.days[-1]), row.number, row.most)
+        WrongBeside(row.nurse, (first + row.days[0], first + row.days[-1]), row.number, row.most)
         for row in rows
     ]
     odd += [
-        Beside(run.nurse, (first + run.days[0], first + run.days[-1]), *run[3:], run.shift)
+        WrongBeside(run.nurse, (first + run.days[0], first + run.days[-1]), *run[3:], run.shift)
         for run in long_runs(plan.scenario, plan.past, away, shifts)
     ]
     known = {
@@ -240,7 +240,7 @@ def beside_of(plan: WardPlan, away: DaysAway, shifts: Mapping[NurseDay, str]) ->
     for nurse, day in nights_before(away, known):
         word = plan.away[NurseDay(nurse, first + day)]
         odd.append(
-            Beside(
+            WrongBeside(
                 nurse,
                 (first + day - 1, first + day),
                 shift=known[NurseDay(nurse, day - 1)],

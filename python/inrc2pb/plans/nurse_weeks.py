@@ -11,7 +11,7 @@ from ..judging.next_history import next_nurse_history
 from ..judging.obstacles import Obstacle, obstacles
 from ..judging.rules import Charge, costs
 from ..week.records import Cell, History, NurseDay, Week, WeekData, in_week
-from .facts import Beside, beside_of
+from .facts import WrongBeside, beside_of
 from .state import SetDay
 from .ward import WardPlan
 
@@ -42,7 +42,7 @@ class Fault(NamedTuple):
     # What she has above limits.
     above: tuple[Above, ...] = ()
     # What is wrong beside her days away.
-    beside: Beside | None = None
+    beside: WrongBeside | None = None
     # The minimum number of the place that she leaves.
     number: int = 0
     # What was promised to her.
@@ -126,7 +126,7 @@ class NurseWeeks:
         """How much that is in all."""
         return sum(excess(week.charges) for week in self.above(nurse, cells))
 
-    def beside(self, nurse: str, cells: NurseCells) -> list[Beside]:
+    def beside(self, nurse: str, cells: NurseCells) -> list[WrongBeside]:
         """What is wrong beside the nurse's days of training and leave with these shifts."""
         return beside_of(self._plan, *self._around(nurse, cells))
 

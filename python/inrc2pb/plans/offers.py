@@ -6,8 +6,8 @@ from dataclasses import dataclass
 from ..judging.limits import limits_in_words
 from ..judging.obstacles import Obstacle
 from ..sheets.written_days import BACK
-from ..shown.changes import Charged, charge_lines, sum_text
-from ..shown.why import in_words as charge_text
+from ..shown.changes import PricedWords, charge_lines, sum_text
+from ..shown.why import charge_text
 from ..week.faults import Misuse
 from ..week.records import DAYS, WEEK_DAYS, Cell, NurseDay
 from ..week.words import OFF, plural, readable
@@ -181,7 +181,7 @@ def nobody_text(none: Offers) -> str:
     return f"{fault}: look at a swap with one nurse, which says what it breaks"
 
 
-def changed_lines(old: WardPlan, new: WardPlan) -> list[str]:
+def follow_up_lines(old: WardPlan, new: WardPlan) -> list[str]:
     """What differs in a plan that was made without a search: shifts, nurses to call, wishes, what
     is odd beside days away, and charges."""
     changes = shift_changes(old.cells, new.cells)
@@ -209,11 +209,11 @@ def price_lines(old: WardPlan, new: WardPlan) -> list[str]:
     ]
 
 
-def _charged(plan: WardPlan) -> list[Charged]:
+def _charged(plan: WardPlan) -> list[PricedWords]:
     """The cost of each charge, and the charge in words."""
     weeks = ((week.charges or (), plan.day_names(week.number)) for week in plan.view().weeks)
     return [
-        Charged(charge.cost, readable(charge_text(charge, names=names)))
+        PricedWords(charge.cost, readable(charge_text(charge, names=names)))
         for charges, names in weeks
         for charge in charges
     ]

@@ -74,7 +74,7 @@ def write_pages(
     worked = worked_name(plan.days, plan.state.period)
     contents = {}
     if plan.state.open_week:
-        contents[worked] = replace(_worked_content(plan), name=ward_name(top))
+        contents[worked] = replace(_worked_content(plan), name=shown_name(top))
     if plan.is_planned and plan.weeks:
         content = roster_content(top, plan, old)
         both = (
@@ -160,7 +160,7 @@ def calendars_taken_away(
 def write_worked(top: Path, plan: WardPlan) -> Path:
     """Writes the page of a period that is over."""
     path = top / worked_name(plan.days, plan.state.period)
-    write_own_text(path, page_text(replace(_worked_content(plan), name=ward_name(top))))
+    write_own_text(path, page_text(replace(_worked_content(plan), name=shown_name(top))))
     return path
 
 
@@ -265,7 +265,7 @@ def _write_calendars(
     return [top / CALENDARS]
 
 
-def ward_name(top: Path) -> str:
+def shown_name(top: Path) -> str:
     """The name of a ward for people: that of its folder."""
     return readable(top.resolve().name)
 
@@ -288,7 +288,7 @@ def roster_content(top: Path, plan: WardPlan, old: WardPlan | None = None) -> Co
         promised=_of_table(plan, promised_days(plan)),
     )
     return replace(
-        content, name=ward_name(top), since="the plan that was hung up before", sums=sums(plan)
+        content, name=shown_name(top), since="the plan that was hung up before", sums=sums(plan)
     )
 
 

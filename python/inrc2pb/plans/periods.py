@@ -25,7 +25,7 @@ from .state import Record, State
 from .ward import WardPlan, plan_of
 
 
-class Kept(NamedTuple):
+class KeptPlan(NamedTuple):
     """A plan's folder, its record, and the number of its period."""
 
     folder: Path
@@ -49,13 +49,13 @@ class Period(NamedTuple):
         return self.ended is not None or self.open_week >= self.days.weeks
 
 
-def kept_plans(folders: Iterable[Path]) -> Iterator[Kept]:
+def kept_plans(folders: Iterable[Path]) -> Iterator[KeptPlan]:
     """The folders that are not damaged, with their periods. The record of an older version has no
     number, and one without weeks ends a period."""
     ended = 0
     for folder, record in ((folder, known_record(folder)) for folder in folders):
         if record:
-            yield Kept(folder, record, ended if record.period is None else record.period)
+            yield KeptPlan(folder, record, ended if record.period is None else record.period)
             ended += record.period is None and not record.days.weeks
 
 

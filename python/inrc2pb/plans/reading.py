@@ -15,7 +15,7 @@ from ..week.files import read_scenario, read_week
 from ..week.own_files import check_no_link
 from ..week.records import WEEK_DAYS, History
 from .periods import (
-    Kept,
+    KeptPlan,
     Period,
     border_of,
     end_of,
@@ -180,7 +180,7 @@ class PlanReader:
         except (FileFault, Misuse, OSError):
             return None
 
-    def kept(self, plan: WardPlan) -> List[Kept]:
+    def kept(self, plan: WardPlan) -> List[KeptPlan]:
         """The plans of the period of a plan, in the order in which they were made."""
         return [
             kept for kept in kept_plans(self.folder.all_plans()) if kept.period == plan.state.period

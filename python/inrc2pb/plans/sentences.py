@@ -6,16 +6,16 @@ from ..judging.absences import in_words
 from ..judging.limits import limits_in_words, limits_way_out
 from ..sheets.week_rows import WeekRow
 from ..shown.changes import change_text, shifts_text
-from ..shown.why import in_words as charge_text
+from ..shown.why import charge_text
 from ..week.dates import PlanDays, date_text
 from ..week.records import WEEK_DAYS, Cell, NurseDay, together
 from ..week.soft_rules import RULES
 from ..week.words import OFF, joined, plural, quoted, readable, wish_text
 from .changes import ShiftChange, called
 from .facts import (
-    Beside,
+    WrongBeside,
     Broken,
-    TooMany,
+    TooManyShifts,
     Unkept,
     beside_days_away,
     due_to_days_away,
@@ -135,7 +135,7 @@ def days_away_lines(plan: WardPlan) -> list[str]:
     return [_shifts_line(plan, many) for many in too_many_by_days_away(plan)]
 
 
-def _shifts_line(plan: WardPlan, many: TooMany) -> str:
+def _shifts_line(plan: WardPlan, many: TooManyShifts) -> str:
     """That a nurse has too many shifts, and what would help."""
     above = many.shifts - many.most
     counted = plan.ward.credit.get(many.nurse, 0)
@@ -148,7 +148,7 @@ def _shifts_line(plan: WardPlan, many: TooMany) -> str:
     return readable(f"{many.nurse} has {number}, and this limit holds: {cure}")
 
 
-def beside_text(days: PlanDays, beside: Beside) -> str:
+def beside_text(days: PlanDays, beside: WrongBeside) -> str:
     """What is wrong beside days away."""
     before, day = beside.days
     nurse = readable(beside.nurse)

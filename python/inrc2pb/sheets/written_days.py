@@ -69,7 +69,7 @@ def without_last(
     )
 
 
-def words_of(absences: Sequence[DayWord], nurse: str) -> Dict[int, str]:
+def words_by_day(absences: Sequence[DayWord], nurse: str) -> Dict[int, str]:
     """The word that holds on each day of a nurse for which a verb has written one."""
     return {absence.day: absence.word for absence in absences if absence.nurse == nurse}
 

@@ -76,14 +76,14 @@ def changed_lines(old: RosterView, new: RosterView) -> Iterator[str]:
 # ---- charges
 
 
-class Charged(NamedTuple):
+class PricedWords(NamedTuple):
     """What a charge costs, and the charge in words."""
 
     cost: int
     words: str
 
 
-def charge_lines(old: Sequence[Charged], new: Sequence[Charged]) -> Iterator[str]:
+def charge_lines(old: Sequence[PricedWords], new: Sequence[PricedWords]) -> Iterator[str]:
     """A line for each charge that only the old roster has, which is saved, and then for each that
     only the new one has."""
     before = collections.Counter(old)
@@ -100,7 +100,7 @@ def sum_text(before: int, now: int, words: str) -> str:
 # ---- swaps
 
 
-def swapped(view: RosterView, swaps: Sequence[tuple[str, str]]) -> RosterView:
+def with_swaps(view: RosterView, swaps: Sequence[tuple[str, str]]) -> RosterView:
     """The roster of one week after swaps in turn: two nurses and days, as `Chen Fri` and
     `Grace Fri`, get each other's cells. Raises Misuse if one of them is not in the roster."""
     if len(view.weeks) != 1:

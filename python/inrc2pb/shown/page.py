@@ -12,7 +12,7 @@ from .page_content import Content
 from .page_tables import changes_table, coverage_tables, sums_table, totals_table, wishes_table
 from .roster_table import RosterTable
 from .roster_text import COLORS, ink_on
-from .why import breach_lines, costs_text, in_words, plain_breach_lines
+from .why import breach_lines, costs_text, charge_text, plain_breach_lines
 
 STYLE = """
 :root { color-scheme: light }
@@ -150,7 +150,7 @@ def section(heading: str, *inside: str, class_: str | None = None) -> Markup:
 
 def _charge(page: Content, week: int, charge: Charge) -> Markup:
     prefix = "" if page.monday else page.view.prefix(page.view.weeks[week])
-    words = readable(f"{prefix}{in_words(charge, False, page.days(week))}")
+    words = readable(f"{prefix}{charge_text(charge, False, page.days(week))}")
     return element("li", f"{charge.cost} ({charge.rule}) {words}")
 
 

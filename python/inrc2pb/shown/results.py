@@ -60,7 +60,7 @@ def _seconds_of(log: Path) -> dict[str, float]:
         raise Misuse(f"{log} has a line that parallel did not write") from None
 
 
-def table(results: Iterable[Result]) -> list[str]:
+def results_table(results: Iterable[Result]) -> list[str]:
     """The lines of the table: one for each report, and one for all."""
     known = list(results)
     rows = [_HEAD, *map(_row, known)]

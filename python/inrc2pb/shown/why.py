@@ -7,9 +7,9 @@ from ..judging.absences import MARK
 from ..judging.limits import limits_in_words
 from ..judging.rules import Charge, cost_by_rule
 from ..week.records import DAYS
-from ..week.soft_rules import RULES, SOFT_RULES, Form
+from ..week.soft_rules import RULES, SOFT_RULES, Phrase
 from ..week.words import plural
-from .changes import Charged, changed_lines, charge_lines, sum_text
+from .changes import PricedWords, changed_lines, charge_lines, sum_text
 from .roster_view import RosterView
 
 
@@ -46,13 +46,14 @@ def why_lines(view: RosterView) -> Iterator[str]:
         for charge in shown.charges or ():
             away = shown.for_absence(charge)
             absent = f" ({away} for absences)" if away else ""
-            yield f"{charge.cost:5}  {charge.rule}  {view.prefix(shown)}{in_words(charge)}{absent}"
+            words = f"{view.prefix(shown)}{charge_text(charge)}{absent}"
+            yield f"{charge.cost:5}  {charge.rule}  {words}"
     if view.penalty is not None:
         rules = costs_text(cost_by_rule(charge for _, charge in _charges(view)))
         yield f"{view.penalty:5}  in all{f': {rules}' if rules else ''}"
 
 
-def change_lines(old: RosterView, new: RosterView) -> Iterator[str]:
+def difference_lines(old: RosterView, new: RosterView) -> Iterator[str]:
     """A line for each change, for each hard rule that is broken, for each charge that is saved or
     added, and the sum."""
     yield from changed_lines(old, new)
@@ -71,10 +72,10 @@ def change_lines(old: RosterView, new: RosterView) -> Iterator[str]:
     )
 
 
-def _charged(view: RosterView) -> list[Charged]:
+def _charged(view: RosterView) -> list[PricedWords]:
     """The cost of each charge, and its rule and the charge in words."""
     return [
-        Charged(charge.cost, f"{charge.rule}  {week}{in_words(charge)}")
+        PricedWords(charge.cost, f"{charge.rule}  {week}{charge_text(charge)}")
         for week, charge in _charges(view)
     ]
 
@@ -115,18 +116,18 @@ def _not_granted(charge: Charge) -> str:
 def reason(charge: Charge, monday: str) -> str:
     """What is charged, without the nurse or place and the days."""
     rule = RULES[charge.rule]
-    if rule.form is Form.PLACE:
+    if rule.form is Phrase.PLACE:
         return f"{charge.number} of {plural(charge.limit, rule.counts)}"
-    if rule.form is Form.RUN:
+    if rule.form is Phrase.RUN:
         return _in_a_row(charge, f"on {charge.subject}" if charge.subject else rule.counts, monday)
-    if rule.form is Form.REQUEST:
+    if rule.form is Phrase.REQUEST:
         return f"on {charge.subject}, {_not_granted(charge)}"
-    if rule.form is Form.TOTAL:
+    if rule.form is Phrase.TOTAL:
         return _in_the_period(charge, rule.counts, monday)
     return rule.words
 
 
-def in_words(charge: Charge, with_nurse: bool = True, names: Sequence[str] = DAYS) -> str:
+def charge_text(charge: Charge, with_nurse: bool = True, names: Sequence[str] = DAYS) -> str:
     """A charge in words, as `Chen, Mon to Thu: 4 days off in a row, at most 3`, with these names of
     days."""
     monday = "Monday" if names is DAYS else names[0]
@@ -134,7 +135,7 @@ def in_words(charge: Charge, with_nurse: bool = True, names: Sequence[str] = DAY
         days_text(charge.days, names)
         if charge.days
         else ""
-        if RULES[charge.rule].form is Form.TOTAL
+        if RULES[charge.rule].form is Phrase.TOTAL
         else f"before {monday}"
     )
     who = charge.subject if charge.nurse is None else charge.nurse if with_nurse else ""

@@ -9,7 +9,7 @@ import enum
 from typing import NamedTuple
 
 
-class Form(enum.Enum):
+class Phrase(enum.Enum):
     """What a rule charges: too few nurses at a place, days in a row, a request, half a weekend, or
     a total of the period."""
 
@@ -28,7 +28,7 @@ class Rule(NamedTuple):
     weight: int
     # What it charges, and the form of its charges.
     words: str
-    form: Form
+    form: Phrase
     # Why a nurse's days away have a part in them; no text, if they have none.
     away: str
     # A word for what they count.
@@ -38,25 +38,25 @@ class Rule(NamedTuple):
 RULES = {
     rule.name: rule
     for rule in (
-        Rule("S1", 30, "fewer nurses than best", Form.PLACE, "", "nurse"),
+        Rule("S1", 30, "fewer nurses than best", Phrase.PLACE, "", "nurse"),
         Rule(
             "S2",
             30,
             "days in a row with work or on one shift type",
-            Form.RUN,
+            Phrase.RUN,
             "the days in a row end at her days away ({})",
             "with work",
         ),
         Rule(
-            "S3", 30, "days in a row off", Form.RUN, "her days away ({}) count as days off", "off"
+            "S3", 30, "days in a row off", Phrase.RUN, "her days away ({}) count as days off", "off"
         ),
-        Rule("S4", 10, "a wish that is not granted", Form.REQUEST, ""),
-        Rule("S5", 30, "half a weekend", Form.WEEKEND, "she is away on the other day ({})"),
+        Rule("S4", 10, "a wish that is not granted", Phrase.REQUEST, ""),
+        Rule("S5", 30, "half a weekend", Phrase.WEEKEND, "she is away on the other day ({})"),
         Rule(
             "S6",
             20,
             "shifts in the period",
-            Form.TOTAL,
+            Phrase.TOTAL,
             "some of her shifts are for days away ({})",
             "shift",
         ),
@@ -64,7 +64,7 @@ RULES = {
             "S7",
             30,
             "weekends in the period",
-            Form.TOTAL,
+            Phrase.TOTAL,
             "some of her weekends are days away ({})",
             "weekend",
         ),

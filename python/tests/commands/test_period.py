@@ -30,7 +30,7 @@ from ward import (
 )
 
 from inrc2pb.search.bounds import PLAIN, PROVER
-from inrc2pb.commands.period import Period
+from inrc2pb.commands.period import PeriodRun
 from inrc2pb.search.planned_weeks import PeriodFiles
 from inrc2pb.week.soft_rules import SOFT_RULES
 
@@ -324,7 +324,7 @@ class PeriodFaults(PeriodTest):
         self.assertTrue((self.folder / "history-1.txt").exists())
 
     def test_the_weeks_that_a_stopped_period_has(self):
-        period = Period(PeriodFiles(*MONTH_OPTIONS[1::2], MONTH_WEEKS[1::2]), self.folder)
+        period = PeriodRun(PeriodFiles(*MONTH_OPTIONS[1::2], MONTH_WEEKS[1::2]), self.folder)
         for planned, says in (
             (1, "week 1 is planned, weeks 2 to 4 are not"),
             (2, "weeks 1 to 2 are planned, weeks 3 to 4 are not"),

@@ -11,7 +11,7 @@ from inrc2pb.sheets.ward import read_sheet
 from inrc2pb.plans import planning
 from inrc2pb.plans.searching import Found
 from inrc2pb.plans.plan_files import read_state
-from inrc2pb.sheets.written_days import DayWord, with_days, without_last, words_of
+from inrc2pb.sheets.written_days import DayWord, with_days, without_last, words_by_day
 from inrc2pb.plans.ward import continued
 from inrc2pb.week.files import read_history, read_scenario
 from inrc2pb.week.records import Cell
@@ -399,7 +399,7 @@ class Written(FolderTest):
         ill = DayWord("Chen", 2, "ill")
         both = with_days(with_days(leave, "Chen", [2], "ill"), "Chen", [2], "ill")
         self.assertEqual(
-            (both, words_of(both, "Chen"), words_of(both, "Grace")),
+            (both, words_by_day(both, "Chen"), words_by_day(both, "Grace")),
             ((*leave, ill), {1: "leave", 2: "ill"}, {}),
         )
         self.assertEqual(set(without_last(both, "Chen", [2])), set(leave))

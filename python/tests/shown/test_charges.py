@@ -24,7 +24,7 @@ from ward import (
 
 from inrc2pb.judging import rules
 from inrc2pb.judging.breaches import breaches
-from inrc2pb.shown.why import in_words
+from inrc2pb.shown.why import charge_text
 from inrc2pb.week.soft_rules import SOFT_RULES
 
 sys.path.insert(0, str(ROOT / "tests" / "random"))
@@ -63,7 +63,7 @@ class Words(unittest.TestCase):
         base = rules.Charge("S3", "off", "Chen", 30)
         days = [letter == "#" for letter in has]
         return [
-            (charge.times, in_words(charge))
+            (charge.times, charge_text(charge))
             for charge in rules.run_charges(base, days, before, records.Limits(least, greatest))
         ]
 

@@ -1,7 +1,7 @@
 """The verb for a nurse who is back."""
 
 
-from ...sheets.written_days import BACK, with_days, without_last, words_of
+from ...sheets.written_days import BACK, with_days, without_last, words_by_day
 from ...week.faults import Misuse
 from ...week.records import NurseDay
 from ...week.words import readable
@@ -20,7 +20,7 @@ def _lifted(old: WardPlan, event: Event) -> Away:
     first = wording.open_day()
     wording.end()
     word, days = absence_from(old, nurse, first)
-    is_written = words_of(old.state.absences, nurse).get(first) == word
+    is_written = words_by_day(old.state.absences, nurse).get(first) == word
     lifted = (
         without_last(old.state.absences, nurse, days)
         if is_written
@@ -43,7 +43,7 @@ def absence_from(plan: WardPlan, nurse: str, first: int) -> tuple[str, list[int]
         promised = ": the sheet plan promises her this day off: empty her cell to change that"
         why = {"": "", ALWAYS_OFF: ": she is always off on it", PROMISED: promised}[word]
         raise Misuse(f"{readable(nurse)} is not away on {plan.days.text(first)}{why}")
-    by_verbs = words_of(plan.state.absences, nurse)
+    by_verbs = words_by_day(plan.state.absences, nurse)
     is_of_verb = by_verbs.get(first) == word
     days = [first]
     for day in range(first + 1, plan.days.total):

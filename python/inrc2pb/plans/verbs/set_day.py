@@ -11,7 +11,7 @@ from ...week.words import OFF, readable
 from ..corrections import next_period_lines
 from ..left_open import left_open, new_open_lines, with_fewer_open
 from ..nurse_weeks import Fault
-from ..offers import MOST_OFFERS, changed_lines, offer_text, reason_text, refused_lines
+from ..offers import MOST_OFFERS, follow_up_lines, offer_text, reason_text, refused_lines
 from ..planning import CHANGE_SECONDS, searched
 from ..searching import Asked
 from ..sentences import cell_text, exceeded_lines
@@ -103,7 +103,7 @@ class DaySet(Outcome):
             *older, promise = self.heads()
             opened = new_open_lines(self.old, self.new)
             then = next_period_lines(*self.following)
-            said = [*older, *changed_lines(self.old, self.new), *opened, *then, promise]
+            said = [*older, *follow_up_lines(self.old, self.new), *opened, *then, promise]
         if not self.is_written:
             instead = [] if self.takes_back else self._instead()
             return [*said, f"nothing is written: {write}", *instead] if write else said

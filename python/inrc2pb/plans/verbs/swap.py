@@ -8,7 +8,7 @@ from ...week.records import Cell, NurseDay
 from ...week.words import joined, readable
 from ..corrections import next_period_lines
 from ..nurse_weeks import Fault
-from ..offers import Offers, changed_lines, offers_of, refused_lines
+from ..offers import Offers, follow_up_lines, offers_of, refused_lines
 from ..plan_files import read_state
 from ..sentences import exceeded_lines
 from ..state import State, Swap
@@ -43,7 +43,7 @@ class Swapped(Outcome):
         offers = self.offers.lines() if self.offers else []
         if self.faults:
             return [*refused_lines(self.old, [*self.faults]), *offers]
-        said = [*changed_lines(self.old, self.new), *next_period_lines(*self.following)]
+        said = [*follow_up_lines(self.old, self.new), *next_period_lines(*self.following)]
         if self.takes_back:
             said.append("this takes their swap back: later plans do not keep it")
         if not self.is_written:
@@ -52,14 +52,14 @@ class Swapped(Outcome):
         return [*said, *exceeded_lines(self.new), *kept, *self.pages.lines()]
 
 
-class Look(NamedTuple):
+class AllSwaps(NamedTuple):
     """A look at who could take a nurse's shift on a day."""
 
     nurse: str
     day: int
 
 
-def asked_swap(old: WardPlan, event: Event) -> Look | Swap:
+def asked_swap(old: WardPlan, event: Event) -> AllSwaps | Swap:
     """The swap of two nurses that is asked for, or the look at all swaps of a shift."""
     names = [readable(nurse) for nurse in old.scenario.nurses][:2]
     wording = wording_of(
@@ -70,7 +70,7 @@ def asked_swap(old: WardPlan, event: Event) -> Look | Swap:
     if wording.is_over:
         if event.do:
             raise Misuse("a swap that is written is of two nurses: name the other one and her day")
-        return Look(nurse, day)
+        return AllSwaps(nurse, day)
     other = wording.nurse()
     days = {day, day if wording.is_over else wording.open_day()}
     wording.end()
@@ -125,7 +125,7 @@ def _asked(store: PlanStore, event: Event) -> Offers | Swapped:
     """What a swap costs and breaks, and who else could swap."""
     old = store.fitting()
     asked = asked_swap(old, event)
-    if isinstance(asked, Look):
+    if isinstance(asked, AllSwaps):
         return offers_of(Swaps(old), *asked)
     found = judged(old, asked, _before_swap(store, old, asked), has_offers=not event.do)
     return replace(found, following=store.following(found.new))
