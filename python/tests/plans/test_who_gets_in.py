@@ -2,13 +2,14 @@
 leads to is neither read nor written, and the secret of the address is kept where nobody else reads
 it."""
 
+import builtins
+import contextlib
 import io
 import os
 import random
 import re
 import shutil
 import stat
-import threading
 import unittest
 from unittest import mock
 
@@ -134,27 +135,36 @@ class Links(FolderTest):
 
 class LinkedPages(FolderPages):
     def test_a_link_that_comes_back_at_once(self):
-        """Another one's program makes a page a link again and again while it is written: what it
-        leads to stays as it was."""
+        """Another one's program makes the pages links before a verb, and again just before they are
+        opened or replaced: what they lead to stays as it was."""
         outside = self.folder / "outside.txt"
-        ended = threading.Event()
         outside.write_text("mine")
+        pages = (self.ward / "roster.html", self.ward / "wall.html")
+        replaced = set()
 
-        def links():
-            while not ended.is_set():
-                for name in ("roster.html", "wall.html"):
-                    new = self.ward / "new"
-                    new.symlink_to(outside)
-                    os.replace(new, self.ward / name)
+        def link(*paths):
+            for path in paths:
+                path.unlink(missing_ok=True)
+                path.symlink_to(outside)
 
-        thread = threading.Thread(target=links)
-        thread.start()
-        self.addCleanup(thread.join)
-        self.addCleanup(ended.set)
-        self.page()
-        for _ in range(20):
+        def after_a_link(call):
+            def calls(*words, **options):
+                found = [page for page in pages if str(page) in map(str, words)]
+                link(*found)
+                replaced.update(page for page in found if call.__name__ == "replace")
+                return call(*words, **options)
+
+            return calls
+
+        with contextlib.ExitStack() as patches:
+            for where, name in ((builtins, "open"), (io, "open"), (os, "open"), (os, "replace")):
+                changed = mock.patch.object(where, name, after_a_link(getattr(where, name)))
+                patches.enter_context(changed)
+            link(*pages)
+            self.page()
+            link(*pages)
             self.change(random.Random(1))
-        self.assertEqual(outside.read_text(), "mine")
+        self.assertEqual((outside.read_text(), replaced), ("mine", set(pages)))
 
 
 class Secret(FolderTest):
