@@ -144,7 +144,7 @@ def sure_markup(
         element("input", type="hidden", name=name, value=value)
         for name, value in {**fields, SURE: "yes", SEEN: seen}.items()
     ]
-    yes = element("button", "Yes, write it", autofocus="")
+    yes = element("button", "Yes, write it")
     parts = [element("h2", f"{_question(form, fields, plan)}?")]
     if lines:
         parts.append(element("pre", "\n".join(lines)))
@@ -159,7 +159,8 @@ def sure_markup(
         method="post",
         action=address,
     )
-    return element("section", *parts, answers)
+    # The question has the focus, and not its answer, so that nobody writes unread.
+    return element("section", *parts, answers, tabindex="-1", autofocus="")
 
 
 def _question(form: Form, fields: Fields, plan: Optional[WardPlan]) -> str:

@@ -21,10 +21,11 @@ from ..week.records import WEEK_DAYS, NurseDay
 from ..week.words import readable
 from .cell import Actions, cell_address
 from .forms import FORMS, STAMP, button_markup, form_markup, sure_markup
-from .jobs import Fields, Said
+from .jobs import Done, Fields, Said
 
 REFRESH_SECONDS = 2
 _FORMS = "forms"
+_HINT = "Click a nurse's day, or by keyboard her name: what it costs, and what can be done with it."
 _GUIDE = (
     "The spreadsheet is {}: change it, save it, and plan again. "
     "A button that writes asks first, and Undo takes back what the last one wrote. "
@@ -47,8 +48,25 @@ summary { font-weight: 600; padding: .3em 0 }
 .actions form { margin: .15em 0 }
 .actions button { width: 100%; text-align: left }
 .actions .words button { width: auto; min-width: 0 }
+@media screen {
+body { max-width: none; margin: .6em 1em }
+h1 { display: inline-block; margin-right: 1em }
+h1 + .links { display: inline-block }
+.plan { overflow: auto; max-height: 84vh; margin-bottom: .4em }
+.plan:has(~ .panel .busy) { max-height: 46vh }
+.plan table { margin: 0 }
+.plan caption { position: absolute; clip-path: inset(50%) }
+.plan thead { position: sticky; top: 0; z-index: 2 }
+.panel { position: sticky; bottom: 0; max-height: 48vh; overflow: auto; background: #fff; border-top: 3px solid #05c; padding: .2em .6em; z-index: 3 }
+#cell, .panel h2 { scroll-margin-top: 100vh }
+.panel h2 { margin: .3em 0 }
+.gone { color: #555 }
+}
+@media print { .panel, #forms, .links { display: none } .plan { overflow: visible } }
 @media screen and (max-width: 40em) { button { width: 100% } label { display: block } select { max-width: 100% } }
 """
+# The verbs that the page lists.
+_DONE = "done"
 
 
 class Shown(NamedTuple):
@@ -81,6 +99,8 @@ class Shown(NamedTuple):
     # runs.
     periods: Sequence[Tuple[str, str]] = ()
     runs: bool = True
+    # What verbs have done, the last one first.
+    history: Sequence[Done] = ()
 
     @property
     def stamp(self) -> str:
@@ -89,11 +109,13 @@ class Shown(NamedTuple):
 
 
 class Roster(NamedTuple):
-    """The roster of a plan as the page shows it: its points, if it has some, and its notes, tables
-    and legend. It is the same in each look at this plan."""
+    """The roster of a plan as the page shows it: its points, if it has some, and its tables. It is
+    the same in each look at this plan."""
 
     points: str
     tables: Markup
+    # The notes and the legend.
+    below: Markup = Markup("")
 
 
 def roster_of(top: Path, plan: WardPlan, address: str) -> Roster:
@@ -107,24 +129,18 @@ def roster_of(top: Path, plan: WardPlan, address: str) -> Roster:
     table = RosterTable(content)
     notes = [element("p", note) for note in content.notes]
     legend = element("ul", *(element("li", line) for line in table.legend()), class_="legend")
-    hint = element(
-        "p",
-        (
-            "Click a nurse's day, or by keyboard her name: what it costs, and what can be done"
-            " with it."
-        ),
-    )
     points = content.view.penalty
     return Roster(
         "" if points is None else f"{points} points. ",
-        joined(*content.open_lines(), *notes, hint, *table.tables(), legend),
+        joined(*table.tables()),
+        joined(legend, *content.open_lines(), *notes),
     )
 
 
 def page_markup(plan: Optional[WardPlan], shown: Shown, address: str) -> str:
-    """The page: what was said or is asked, what can be done with the cell that was clicked, the
-    roster, and below it the forms. While a verb runs it loads itself again and again, and has no
-    plan, which would take the time of the search.
+    """The page: the roster, and below it a panel with what was said or is asked, or what can be
+    done with the cell that was clicked, and the forms. While a verb runs it loads itself again and
+    again, and has no plan, which would take the time of the search, but the last roster.
     """
     name = shown.name
     said = shown.said
@@ -134,25 +150,29 @@ def page_markup(plan: Optional[WardPlan], shown: Shown, address: str) -> str:
         not said.runs
         and (bool(plan and shown.refused) or (shown.place is not None and not said.fault))
     )
-    parts: List[Markup] = [
-        element("h1", name),
-        *_periods(shown),
+    panel: List[Markup] = [
         *_lines(shown.refused, True),
         *([] if is_old else _said(said, shown, address)),
     ]
     if shown.asks:
-        parts.append(sure_markup(shown.asks, plan, address, shown.seen, shown.lines))
+        panel.append(sure_markup(shown.asks, plan, address, shown.seen, shown.lines))
     elif plan and not said.runs:
         if shown.place and plan.is_planned:
-            parts.append(Actions(plan, shown.place, address, shown.stamp, shown.agreed).markup())
+            panel.append(Actions(plan, shown.place, address, shown.stamp, shown.agreed).markup())
     elif plan is None and not said.runs:
-        parts += _without_plan(shown, address)
-    if plan and shown.roster:
-        parts.append(_roster(plan, shown.roster, shown, address))
+        panel += _without_plan(shown, address)
+    parts: List[Markup] = [element("h1", name), *_periods(shown)]
+    if shown.roster:
+        parts += _roster(plan, shown.roster, shown, address)
+        panel = [element("div", *panel, class_="busy")] if panel else [element("p", _HINT)]
+    parts.append(element("section", *panel, class_="panel"))
+    if shown.roster:
+        parts.append(shown.roster.below)
     if plan and not shown.asks and not said.runs:
         parts.append(_forms(plan, shown, address))
     chosen = (
-        f'\ntd a[href="{cell_address(address, shown.place)}"] {{ outline: 3px solid #05c }}'
+        f'\ntd a[href="{cell_address(address, shown.place)}"] {{ outline: 3px solid #05c;'
+        " outline-offset: -3px; scroll-initial-target: nearest; scroll-margin: 4em 9em }"
         if shown.place
         else ""
     )
@@ -193,9 +213,37 @@ def _forms(plan: WardPlan, shown: Shown, address: str) -> Markup:
         "section",
         guide,
         *parts,
+        *_history(shown, address),
         element("p", *_linked(_worked(shown), address), class_="links"),
         id=_FORMS,
     )
+
+
+def _history(shown: Shown, address: str) -> List[Markup]:
+    """What was done, the last first, with a button that takes the last back."""
+    if not shown.history:
+        return []
+    undo = button_markup({"verb": "undo", STAMP: shown.stamp}, "Take this back", address)
+    last = next((done for done in shown.history if done.holds), None)
+    items = [
+        element(
+            "li",
+            readable(done.text),
+            undo if done is last else "" if done.holds else " (taken back)",
+            class_=None if done.holds else "gone",
+        )
+        for done in shown.history
+    ]
+    text = "The last one that holds can be taken back, then the one before it, and so on."
+    return [
+        element(
+            "details",
+            element("summary", "Who did what, and when"),
+            element("p", text),
+            element("ol", *items),
+            id=_DONE,
+        )
+    ]
 
 
 def _without_plan(shown: Shown, address: str) -> List[Markup]:
@@ -274,10 +322,11 @@ def _worked(shown: Shown) -> List[Tuple[str, str]]:
     return [(text, name) for name, text in shown.worked.items()]
 
 
-def _roster(plan: WardPlan, roster: Roster, shown: Shown, address: str) -> Markup:
-    """The roster, and links to its other pages."""
-    calendars = [("Calendars", CALENDARS)] if plan.days.monday else []
-    to_forms = [] if shown.asks else [element("a", "All buttons", href=f"#{_FORMS}"), " "]
+def _roster(plan: Optional[WardPlan], roster: Roster, shown: Shown, address: str) -> List[Markup]:
+    """Links to its other pages, and the roster."""
+    calendars = [("Calendars", CALENDARS)] if plan and plan.days.monday else []
+    is_open = plan and not shown.asks
+    to_forms = [element("a", "All buttons", href=f"#{_FORMS}"), " "] if is_open else []
     links = [
         *to_forms,
         *_linked(
@@ -286,9 +335,10 @@ def _roster(plan: WardPlan, roster: Roster, shown: Shown, address: str) -> Marku
         ),
     ]
     made = f"Last written: {readable(shown.made)}. " if shown.made else ""
-    return element(
-        "section", element("p", roster.points, made, *links, class_="links"), roster.tables
-    )
+    return [
+        element("p", roster.points, made, *links, class_="links"),
+        element("section", roster.tables, class_="plan"),
+    ]
 
 
 def _linked(links: Sequence[Tuple[str, str]], address: str) -> List[Markup]:

@@ -1,6 +1,8 @@
 """A server for the local page of one ward: one address with a secret, and no other origin."""
 
+import contextlib
 import hmac
+import ipaddress
 import sys
 import threading
 from http.server import BaseHTTPRequestHandler, ThreadingHTTPServer
@@ -100,11 +102,20 @@ class _Handler(BaseHTTPRequestHandler):
             fields = dict(parse_qsl(self.rfile.read(length).decode(), max_num_fields=_MOST_FIELDS))
         except ValueError:
             return self._refuse(400, "this is no form of the page")
-        query = site.post(fields)
+        query = site.post(fields, self._sender())
         self.send_response(303)
         self.send_header("Location", f"{site.base}{query}")
         self.send_header("Content-Length", "0")
         self.end_headers()
+
+    def _sender(self) -> str:
+        """The address of the browser, if that is another machine. A proxy of this machine says it
+        in a header, if there is one; others are not believed."""
+        peer = ipaddress.ip_address(self.client_address[0])
+        said = self.headers.get("X-Real-IP", "") if peer.is_loopback else ""
+        with contextlib.suppress(ValueError):
+            peer = ipaddress.ip_address(said)
+        return "" if peer.is_loopback else str(peer)
 
     def _path(self) -> Tuple[Optional[str], Dict[str, str]]:
         """The part of the path after the secret, and the query; None if the request is refused."""

@@ -134,10 +134,11 @@ class Site:
                 self._shown = plan, roster_of(self.jobs.folder.top, plan, self.base)
             return self._shown[1]
 
-    def post(self, fields: Dict[str, str]) -> str:
+    def post(self, fields: Dict[str, str], sender: str = "") -> str:
         """Does what a form asks for, unless it writes and the user was not asked yet. Returns the
         query of the page that follows: it has the form if that is not done, so that this page asks
-        the user, or says why it was refused.
+        the user, or says why it was refused. The `sender` has this address, if it is another
+        machine.
         """
         if fields.get("verb") == "stop":
             self.jobs.stop()
@@ -148,7 +149,7 @@ class Site:
         seen = self.jobs.folder.seen
         is_sure = SURE in fields and fields.get(SEEN, seen) == seen
         try:
-            event = event_of(fields, self.jobs.seconds, self._period)
+            event = event_of(fields, self.jobs.seconds, self._period)._replace(address=sender)
             if stamp is not None:
                 self.jobs.check_stamp(stamp)
                 self.jobs.check_free()
@@ -196,7 +197,9 @@ class Site:
         sent = self.sent(query)
         refused = sent.lines if sent and sent.is_refused else []
         if not path and said.runs:
-            return Page(page_markup(None, Shown(said, name=self.name, refused=refused), self.base))
+            roster = self._shown[1] if self._shown else None
+            shown = Shown(said, name=self.name, refused=refused, roster=roster)
+            return Page(page_markup(None, shown, self.base))
         # A plan that is written meanwhile has another stamp, and a spreadsheet that is saved is
         # another one.
         seen = self.jobs.folder.seen
@@ -241,6 +244,7 @@ class Site:
             seconds=self.jobs.seconds,
             agreed=self.jobs.verbs().agreed_swap(plan, place) if plan and place else None,
             roster=self.roster(plan),
+            history=self.jobs.history(),
             periods=self._periods(),
             runs=not self._period,
         )

@@ -18,8 +18,15 @@ from .ward import WardPlan
 from .words import Wording
 
 
-# What stands behind the words of an event of the page.
+# What stands behind the words of an event of the page, and the beginning of it if the address of
+# its user is known.
 ON_PAGE = "(on the page)"
+FROM = "(on the page, from "
+
+
+def on_page(address: str) -> str:
+    """What stands behind the words of an event of the page that was used from this address."""
+    return f"{FROM}{address})" if address else ON_PAGE
 
 
 class Event(NamedTuple):
@@ -41,6 +48,8 @@ class Event(NamedTuple):
     on_page: bool = False
     # Whether shifts that nobody can take are left open.
     open: bool = False
+    # The address from which the page was used, if that is not this machine.
+    address: str = ""
 
     @property
     def typed(self) -> str:
@@ -48,7 +57,7 @@ class Event(NamedTuple):
         options = [
             *(["--free"] if self.free else []),
             *(["--open"] if self.open else []),
-            *([ON_PAGE] if self.on_page else []),
+            *([on_page(self.address)] if self.on_page else []),
         ]
         return " ".join(" ".join((self.verb, *self.words, *options)).split())
 

@@ -136,7 +136,7 @@ class WardFolder:
 
     def all_plans(self) -> List[Path]:
         """The folders of all plans, in the order in which they were made."""
-        return sorted(_own_folders(self.plans), key=_place)
+        return sorted(_own_folders(self.plans), key=place_of)
 
     def last(self) -> Optional[Path]:
         """The folder of the plan that holds, if there is one."""
@@ -168,7 +168,7 @@ class WardFolder:
         """Writes a plan with these files: its folder is there as a whole or not at all. Raises
         Misuse if no later verb could read it."""
         number = 1 + max(
-            (_place(path)[0] for path in [*self.all_plans(), *self.undone()]), default=0
+            (place_of(path)[0] for path in [*self.all_plans(), *self.undone()]), default=0
         )
         target = self.plans / f"{number:04}-{now:%Y-%m-%d-%H%M}-{verb}"
         new = Path(tempfile.mkdtemp(prefix=".new-", dir=self.plans))
@@ -267,7 +267,7 @@ def _own_folders(top: Path) -> List[Path]:
     ]
 
 
-def _place(plan: Path) -> Tuple[int, str]:
+def place_of(plan: Path) -> Tuple[int, str]:
     """The number and the name of a plan's folder: the plan after number 9999 has five digits."""
     return int(plan.name.partition("-")[0]), plan.name
 

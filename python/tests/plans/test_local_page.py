@@ -406,7 +406,7 @@ class Page(ServedPage):
 
     def yes(self, page):
         """The form that the button Yes of a page sends."""
-        section = re.search("<section><h2>.*?</section>", page, re.S)[0]
+        section = re.search("<section [^>]*><h2>.*?</section>", page, re.S)[0]
         return urlencode({html.unescape(name): html.unescape(value) for name, value in
                           re.findall('type="hidden" name="([^"]*)" value="([^"]*)"', section)})  # fmt: skip
 
