@@ -9,7 +9,7 @@ period before it is known, so no correction of the past is lost.
 
 from dataclasses import dataclass, replace
 from pathlib import Path
-from typing import Dict, Iterable, Iterator, List, NamedTuple, Optional, Sequence, Tuple
+from typing import Iterable, Iterator, NamedTuple, Sequence
 
 from ..judging.leave import Counted
 from ..judging.next_history import next_history
@@ -41,7 +41,7 @@ class Period(NamedTuple):
     folder: Path
     days: PlanDays
     open_week: int
-    ended: Optional[Path] = None
+    ended: Path | None = None
 
     @property
     def is_over(self) -> bool:
@@ -59,10 +59,10 @@ def kept_plans(folders: Iterable[Path]) -> Iterator[KeptPlan]:
             ended += record.period is None and not record.days.weeks
 
 
-def periods_of(folders: Sequence[Path]) -> List[Period]:
+def periods_of(folders: Sequence[Path]) -> list[Period]:
     """The periods of these folders, in their order. Raises FileFault if a folder is damaged that
     may have the plan that holds."""
-    periods: Dict[int, Period] = {}
+    periods: dict[int, Period] = {}
     for folder, record, number in kept_plans(folders):
         if record.days.weeks:
             periods[number] = Period(number, folder, record.days, record.open_week)
@@ -86,7 +86,7 @@ def state_of(period: Period) -> State:
     return replace(state, open_week=period.days.weeks, cells=cells)
 
 
-def end_of(period: Period, state: Optional[State] = None) -> History:
+def end_of(period: Period, state: State | None = None) -> History:
     """The history at the end of a period, which may have this state: of what was worked, and where
     that is not known yet, of what is planned."""
     if period.ended:
@@ -99,7 +99,7 @@ def end_of(period: Period, state: Optional[State] = None) -> History:
     return past
 
 
-def border_of(ward: Ward, after: State) -> Tuple[Border, ...]:
+def border_of(ward: Ward, after: State) -> tuple[Border, ...]:
     """The shifts that nurses may not have on the last day of a period, since what they have on the
     first day of the next one may not follow them."""
     scenario = ward.scenario

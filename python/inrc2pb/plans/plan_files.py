@@ -7,7 +7,7 @@ import functools
 import json
 import time
 from pathlib import Path
-from typing import Any, Callable, Dict, List, Optional, Sequence, Tuple
+from typing import Any, Callable, Sequence
 
 from ..sheets.older_names import Renamed
 from ..sheets.open_shifts import OpenShift
@@ -58,7 +58,7 @@ def roster_name(week: int) -> str:
 
 def record_text(record: Record) -> str:
     """The text of the file of a record, in which days are numbers from the first Monday on."""
-    values: Dict[str, Any] = {
+    values: dict[str, Any] = {
         "verb": record.verb,
         "time": f"{record.time:%Y-%m-%d %H:%M}",
         "monday": None if record.days.monday is None else str(record.days.monday),
@@ -130,7 +130,7 @@ def _record_in(path: Path) -> Record:
         raise FileFault(path, 0, f"this file was changed: {what}: {_CURE}") from fault
 
 
-def known_record(folder: Path) -> Optional[Record]:
+def known_record(folder: Path) -> Record | None:
     """The record of a plan's folder, if it is not damaged."""
     try:
         return read_record(folder)
@@ -203,7 +203,7 @@ def _record_of(values: Any) -> Record:
     )
 
 
-def _swap_of(rows: Sequence[Sequence[Any]], verb: str, days: PlanDays) -> Optional[Swap]:
+def _swap_of(rows: Sequence[Sequence[Any]], verb: str, days: PlanDays) -> Swap | None:
     """The swap of these nurses' days, if there are some; an older version has it in the words of
     its verb only."""
     if rows:
@@ -225,14 +225,14 @@ def _is_number_to(most: int) -> Callable[[object], bool]:
     )
 
 
-def _taken(values: Dict[str, Any], name: str, fits: Callable[[object], bool]) -> Any:
+def _taken(values: dict[str, Any], name: str, fits: Callable[[object], bool]) -> Any:
     """The value of this name, if it fits."""
     if not fits(values[name]):
         raise _Changed(f"'{name}' has a value that no plan has")
     return values[name]
 
 
-def _time(values: Dict[str, Any], name: str, form: str) -> datetime.datetime:
+def _time(values: dict[str, Any], name: str, form: str) -> datetime.datetime:
     text = _taken(values, name, _is_text)
     try:
         return datetime.datetime.strptime(text, form)
@@ -241,11 +241,11 @@ def _time(values: Dict[str, Any], name: str, form: str) -> datetime.datetime:
 
 
 def _rows(
-    values: Dict[str, Any],
+    values: dict[str, Any],
     name: str,
     fits: Sequence[Callable[[object], bool]],
-    least: Optional[int] = None,
-) -> List[List[Any]]:
+    least: int | None = None,
+) -> list[list[Any]]:
     """The rows of this name, whose values fit one by one: all of them, or the first ones, at least
     so many."""
     lengths = range(len(fits) if least is None else least, len(fits) + 1)
@@ -301,7 +301,7 @@ def check_readable(folder: Path) -> None:
         ) from fault
 
 
-def _with_shifts(set_days: Sequence[SetDay], cells: Sequence[Cell]) -> Tuple[SetDay, ...]:
+def _with_shifts(set_days: Sequence[SetDay], cells: Sequence[Cell]) -> tuple[SetDay, ...]:
     """The days that were set, those of an older version with the shifts of the rosters."""
     works = {cell.nurse_day: cell for cell in cells}
     pairs = ((promise, works.get(promise.place)) for promise in set_days)
@@ -319,7 +319,7 @@ def _with_shifts(set_days: Sequence[SetDay], cells: Sequence[Cell]) -> Tuple[Set
 
 def state_texts(
     state: State, record: Record, scenario: Scenario, histories: Sequence[History]
-) -> Dict[str, str]:
+) -> dict[str, str]:
     """The files of a plan's folder beside those of the ward: what its verbs have written, and the
     rosters and histories that are known."""
     texts = {START: history_text(state.start), NAME: record_text(record)}
@@ -332,7 +332,7 @@ def state_texts(
     return {**texts, **roster_texts(state, scenario)}
 
 
-def roster_texts(state: State, scenario: Scenario) -> Dict[str, str]:
+def roster_texts(state: State, scenario: Scenario) -> dict[str, str]:
     """The files of the rosters that are known, with the nurses in the order of the ward."""
     order = {nurse: number for number, nurse in enumerate(scenario.nurses)}
     texts = {}

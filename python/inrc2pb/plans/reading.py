@@ -4,7 +4,7 @@ now."""
 import contextlib
 import shlex
 from dataclasses import replace
-from typing import Dict, Iterator, List, NamedTuple, Optional, Sequence, Tuple
+from typing import Iterator, NamedTuple, Sequence
 
 from ..sheets.older_names import Names
 from ..sheets.ward import Ward
@@ -38,14 +38,14 @@ class Strangers(NamedTuple):
     """Nurses of whom some may have another name in the spreadsheet than in the last plan."""
 
     # Those whom the last plan does not have.
-    come: Tuple[str, ...] = ()
+    come: tuple[str, ...] = ()
     # Those whom the spreadsheet does not have.
-    gone: Tuple[str, ...] = ()
+    gone: tuple[str, ...] = ()
     # Whether a period begins, which has no plan yet.
     begins: bool = False
 
     @property
-    def alike(self) -> List[Tuple[str, str]]:
+    def alike(self) -> list[tuple[str, str]]:
         """Those who have come and gone with a part of their names in common."""
         return [
             (now, before)
@@ -59,16 +59,16 @@ class PlanReader:
     """The plans of a folder. Verbs are about the period with this number, or about the first one
     that is not over."""
 
-    def __init__(self, folder: WardFolder, number: Optional[int] = None) -> None:
+    def __init__(self, folder: WardFolder, number: int | None = None) -> None:
         self.folder = folder
         self._number = number
 
-    def periods(self) -> List[Period]:
+    def periods(self) -> list[Period]:
         """The periods of the folder."""
         check_no_link(self.folder.plans)
         return periods_of(self.folder.all_plans())
 
-    def open_days(self) -> Dict[int, PlanDays]:
+    def open_days(self) -> dict[int, PlanDays]:
         """The days of the periods that are not over, by their numbers: of those that have a plan,
         and of the next one, if the sheet plan has them."""
         periods = self.periods()
@@ -80,7 +80,7 @@ class PlanReader:
                     days[periods[-1].number + 1] = after
         return days
 
-    def current(self, corrected: Optional[State] = None) -> WardPlan:
+    def current(self, corrected: State | None = None) -> WardPlan:
         """The plan that holds, with what the spreadsheet says now. The period before it may have
         this state, which is not written yet."""
         periods = self.periods()
@@ -100,7 +100,7 @@ class PlanReader:
         """The weeks of a new period: those of the spreadsheet, or of the first period."""
         return self.folder.usual_weeks() or periods[0].days.weeks
 
-    def plan_of(self, number: int, corrected: Optional[State] = None) -> WardPlan:
+    def plan_of(self, number: int, corrected: State | None = None) -> WardPlan:
         """The same of the period with this number, which has a plan, or follows one that has."""
         periods = {period.number: period for period in self.periods()}
         known = periods.get(number)
@@ -123,8 +123,8 @@ class PlanReader:
         return continued(ward.with_border(border), state, past)
 
     def before_and_after(
-        self, corrected: State, number: Optional[int] = None
-    ) -> Tuple[Optional[WardPlan], Optional[WardPlan]]:
+        self, corrected: State, number: int | None = None
+    ) -> tuple[WardPlan | None, WardPlan | None]:
         """The plan that holds of a period, as it is, and if an older period has this state; None if
         there is none yet."""
         try:
@@ -133,7 +133,7 @@ class PlanReader:
         except Misuse:
             return None, None
 
-    def following(self, new: WardPlan) -> Tuple[Optional[WardPlan], Optional[WardPlan]]:
+    def following(self, new: WardPlan) -> tuple[WardPlan | None, WardPlan | None]:
         """The plan of the next period, as it is, and after this plan; None if there is none."""
         numbers = [period.number for period in self.periods()]
         number = new.state.period + 1
@@ -167,7 +167,7 @@ class PlanReader:
         """The same. Raises Misuse if the spreadsheet does not have its names any more."""
         return fitted(self.planned())
 
-    def hung_up(self, plan: WardPlan) -> Optional[WardPlan]:
+    def hung_up(self, plan: WardPlan) -> WardPlan | None:
         """The last plan of the same days that was hung up before the one that holds, if the
         spreadsheet still has its names."""
         older = reversed(self.kept(plan)[:-1])
@@ -180,13 +180,13 @@ class PlanReader:
         except (FileFault, Misuse, OSError):
             return None
 
-    def kept(self, plan: WardPlan) -> List[KeptPlan]:
+    def kept(self, plan: WardPlan) -> list[KeptPlan]:
         """The plans of the period of a plan, in the order in which they were made."""
         return [
             kept for kept in kept_plans(self.folder.all_plans()) if kept.period == plan.state.period
         ]
 
-    def anew(self, plan: WardPlan) -> Tuple[WeekRow, ...]:
+    def anew(self, plan: WardPlan) -> tuple[WeekRow, ...]:
         """The rows of the needs that are as they were in the last period, at the begin of the next
         one."""
         periods = self.periods()
@@ -234,7 +234,7 @@ def running(periods: Sequence[Period]) -> int:
     return next((period.number for period in periods if not period.is_over), after)
 
 
-def _first_weeks(sheet: PlanDays, begun: PlanDays, usual: int) -> Optional[PlanDays]:
+def _first_weeks(sheet: PlanDays, begun: PlanDays, usual: int) -> PlanDays | None:
     """The days of a period that begins on a Monday: as many weeks as usual, if the sheet has whole
     periods of these from there on, or else all that it has."""
     first = sheet.first_of(begun)
@@ -244,7 +244,7 @@ def _first_weeks(sheet: PlanDays, begun: PlanDays, usual: int) -> Optional[PlanD
     return begun._replace(weeks=rest if rest % usual else usual)
 
 
-def _end(period: Period, corrected: Optional[State]) -> History:
+def _end(period: Period, corrected: State | None) -> History:
     """The history at the end of a period, which may have this state."""
     is_it = corrected is not None and corrected.period == period.number
     return end_of(period._replace(ended=None), corrected) if is_it else end_of(period)

@@ -3,7 +3,7 @@ plan everywhere but in the files of single weeks."""
 
 import datetime
 from dataclasses import dataclass, replace
-from typing import Callable, Dict, Iterable, List, NamedTuple, Optional, Tuple
+from typing import Callable, Iterable, NamedTuple
 
 from ..sheets.older_names import Names, Renamed
 from ..sheets.open_shifts import OpenShift
@@ -22,7 +22,7 @@ class SetDay(NamedTuple):
     reason: str = ""
     # Empty for a day off, and None in the file of an older version, which has it in the roster
     # only.
-    shift: Optional[str] = ""
+    shift: str | None = ""
     skill: str = ""
 
     @property
@@ -31,7 +31,7 @@ class SetDay(NamedTuple):
         return NurseDay(self.nurse, self.day)
 
     @property
-    def cell(self) -> Optional[Cell]:
+    def cell(self) -> Cell | None:
         """The shift that is promised; None for a day off."""
         return Cell(self.nurse, self.day, self.shift, self.skill) if self.shift else None
 
@@ -41,15 +41,15 @@ class Swap(NamedTuple):
 
     nurse: str
     other: str
-    days: Tuple[int, ...]
+    days: tuple[int, ...]
 
     @property
-    def pairs(self) -> Tuple[Tuple[str, str], Tuple[str, str]]:
+    def pairs(self) -> tuple[tuple[str, str], tuple[str, str]]:
         """Each nurse with the one whose shifts she gets."""
         return (self.nurse, self.other), (self.other, self.nurse)
 
     @property
-    def places(self) -> List[NurseDay]:
+    def places(self) -> list[NurseDay]:
         """The days of both nurses."""
         return [NurseDay(nurse, day) for nurse, _ in self.pairs for day in self.days]
 
@@ -66,23 +66,23 @@ class Record(NamedTuple):
     # Whether it hangs on the wall, so that later plans change little.
     published: bool = False
     # The days away that verbs have written, of which the last one of a day holds.
-    absences: Tuple[DayWord, ...] = ()
+    absences: tuple[DayWord, ...] = ()
     # The days of swaps that were written, and those that were set, whose shifts later plans keep.
-    agreed: Tuple[NurseDay, ...] = ()
-    set_days: Tuple[SetDay, ...] = ()
+    agreed: tuple[NurseDay, ...] = ()
+    set_days: tuple[SetDay, ...] = ()
     # The words that its user typed.
     typed: str = ""
     # The number of its period in the folder, from 0, which an older version does not say.
-    period: Optional[int] = None
+    period: int | None = None
     # The shifts that are left open, and the older names that are new ones in the plan.
-    opened: Tuple[OpenShift, ...] = ()
-    was: Tuple[Renamed, ...] = ()
+    opened: tuple[OpenShift, ...] = ()
+    was: tuple[Renamed, ...] = ()
     # The days of bank holidays.
-    holidays: Tuple[int, ...] = ()
+    holidays: tuple[int, ...] = ()
     # What no plan costs less than, as far as the last search of all shifts has said so.
-    least: Optional[int] = None
+    least: int | None = None
     # The swap that its verb has written, if it was one.
-    swap: Optional[Swap] = None
+    swap: Swap | None = None
 
     @property
     def made(self) -> str:
@@ -100,26 +100,26 @@ class State:
     start: History
     open_week: int = 0
     planned: int = 0
-    cells: Tuple[Cell, ...] = ()
+    cells: tuple[Cell, ...] = ()
     published: bool = False
-    absences: Tuple[DayWord, ...] = ()
-    agreed: Tuple[NurseDay, ...] = ()
-    set_days: Tuple[SetDay, ...] = ()
+    absences: tuple[DayWord, ...] = ()
+    agreed: tuple[NurseDay, ...] = ()
+    set_days: tuple[SetDay, ...] = ()
     period: int = 0
-    opened: Tuple[OpenShift, ...] = ()
-    was: Tuple[Renamed, ...] = ()
+    opened: tuple[OpenShift, ...] = ()
+    was: tuple[Renamed, ...] = ()
     # Whether the period before it is not over, so it begins as that one is planned.
     is_as_planned: bool = False
     # What no plan costs less than, as far as the last search of all shifts has said so.
-    least: Optional[int] = None
+    least: int | None = None
 
     @property
-    def promised(self) -> Dict[NurseDay, SetDay]:
+    def promised(self) -> dict[NurseDay, SetDay]:
         """The nurses' days that were set."""
         return {promise.place: promise for promise in self.set_days}
 
     @property
-    def kept(self) -> Tuple[NurseDay, ...]:
+    def kept(self) -> tuple[NurseDay, ...]:
         """The nurses' days that later plans keep as they are: those of swaps, and those that were
         set."""
         return tuple(dict.fromkeys((*self.agreed, *self.promised)))
@@ -134,7 +134,7 @@ class State:
         """The first day that is not over."""
         return WEEK_DAYS * self.open_week
 
-    def roster(self, week: int) -> Tuple[Cell, ...]:
+    def roster(self, week: int) -> tuple[Cell, ...]:
         """The shifts of a week, with the days of the week, as files have them."""
         return in_week(self.cells, week)
 
@@ -144,7 +144,7 @@ class State:
         return replace(self, cells=(*worked, *cells), planned=self.days.weeks)
 
     def record(
-        self, verb: str, time: datetime.datetime, typed: str = "", swap: Optional[Swap] = None
+        self, verb: str, time: datetime.datetime, typed: str = "", swap: Swap | None = None
     ) -> Record:
         """What the folder of a plan says of itself that this verb has made, for which these words
         were typed."""

@@ -5,7 +5,7 @@ import contextlib
 import datetime
 import tempfile
 from pathlib import Path
-from typing import Callable, Dict, Iterator, List, NamedTuple, Optional, Sequence, Set, Tuple
+from typing import Callable, Iterator, NamedTuple, Sequence
 
 from ..programs import clock
 from ..programs.program import WeekFiles, penalty_of
@@ -47,7 +47,7 @@ class Means(NamedTuple):
 class PlanStore(PlanReader):
     """The same, which are written, too."""
 
-    def __init__(self, folder: WardFolder, means: Means, number: Optional[int] = None) -> None:
+    def __init__(self, folder: WardFolder, means: Means, number: int | None = None) -> None:
         super().__init__(folder, number)
         self.means = means
 
@@ -61,33 +61,31 @@ class PlanStore(PlanReader):
         free = [number for number in days if number not in planned and plans and not words]
         return PlanStore(self.folder, self.means, next(iter((*named, *free)), None))
 
-    def save(
-        self, verb: str, plan: WardPlan, typed: str = "", swap: Optional[Swap] = None
-    ) -> Pages:
+    def save(self, verb: str, plan: WardPlan, typed: str = "", swap: Swap | None = None) -> Pages:
         """Writes the plan and its pages. Returns the pages."""
         self.add(verb, plan, typed, swap)
         return self.pages(plan)
 
-    def add(self, verb: str, plan: WardPlan, typed: str = "", swap: Optional[Swap] = None) -> None:
+    def add(self, verb: str, plan: WardPlan, typed: str = "", swap: Swap | None = None) -> None:
         """Writes the plan that this verb has made, for which these words were typed, without
         pages."""
         now = datetime.datetime.now()
         texts = plan_texts(plan, plan.state.record(verb, now, typed, swap))
         self.folder.add(verb.split(" ", 1)[0], texts, now)
 
-    def other_pages(self) -> Tuple[str, ...]:
+    def other_pages(self) -> tuple[str, ...]:
         """The names of pages that show another plan than the one that holds, as after a run that
         was killed."""
         return pages.other_plan_pages(self.folder.top, self.folder.stamp)
 
-    def worked_pages(self, plan: Optional[WardPlan]) -> Dict[str, str]:
+    def worked_pages(self, plan: WardPlan | None) -> dict[str, str]:
         """The pages of weeks that are over, and their texts; if the sheet has a fault, so there is
         no plan, that of the roster too."""
         is_left = plan is None and is_own_file(self.folder.top / pages.ROSTER)
         links = {pages.ROSTER: "The roster as it was last written"} if is_left else {}
         return {**links, **pages.worked_pages(self.folder.top)}
 
-    def pages(self, plan: WardPlan, undone: Optional[Record] = None) -> Pages:
+    def pages(self, plan: WardPlan, undone: Record | None = None) -> Pages:
         """Makes the pages of the folder those of a plan, and of the plans of other periods, and the
         table of what was worked that of all periods. They mark what differs from the plan that was
         hung up before. The plan with the record `undone` was taken back."""
@@ -99,7 +97,7 @@ class PlanStore(PlanReader):
                 *pages.write_roster_sheet(top, roster_sheet([*plans, *self._past()])),
                 *self._worked_table(plan),
             ]
-            gone: List[Path] = []
+            gone: list[Path] = []
             for one in plans:
                 is_first = one.state.period <= running(self.periods())
                 done = pages.write_pages(
@@ -132,7 +130,7 @@ class PlanStore(PlanReader):
                 with contextlib.suppress(FileFault, FileFaults, Misuse):
                     yield past_plan(period, self.folder.ward())
 
-    def _page_after(self, undone: Optional[Record]) -> Tuple[Path, ...]:
+    def _page_after(self, undone: Record | None) -> tuple[Path, ...]:
         """Writes the page of a period that is over, if the plan that was taken back was of it."""
         periods = [
             period
@@ -142,7 +140,7 @@ class PlanStore(PlanReader):
         plans = (past_plan(period, self.folder.ward()) for period in periods)
         return tuple(pages.write_worked(self.folder.top, plan) for plan in plans)
 
-    def pages_of_past(self, past: WardPlan, now: Optional[WardPlan]) -> Pages:
+    def pages_of_past(self, past: WardPlan, now: WardPlan | None) -> Pages:
         """The same for the plan that holds, if there is one, after one of weeks that are over has
         changed."""
         written = self.pages(now) if now else Pages()
@@ -153,12 +151,12 @@ class PlanStore(PlanReader):
         except OSError as fault:
             return Pages(fault=fault)
 
-    def _worked_table(self, plan: WardPlan) -> Tuple[Path, ...]:
+    def _worked_table(self, plan: WardPlan) -> tuple[Path, ...]:
         """Writes the table of what was worked, if its verb can have changed that."""
         text = worked_text(self.folder.all_plans(), plan.ward)
         return pages.write_table(self.folder.top, text)
 
-    def pages_undone(self, undone: Optional[Record]) -> Pages:
+    def pages_undone(self, undone: Record | None) -> Pages:
         """Takes the pages of a plan away that was undone, which has this record, if the plan that
         holds cannot be read now."""
         top = self.folder.top
@@ -182,22 +180,22 @@ class PlanStore(PlanReader):
         except OSError as fault:
             return Pages(fault=fault)
 
-    def _earlier_sums(self, plan: WardPlan) -> Dict[str, Sums]:
+    def _earlier_sums(self, plan: WardPlan) -> dict[str, Sums]:
         """What each nurse had in the periods that are over, but for damaged folders."""
-        sums: Dict[str, Sums] = {}
+        sums: dict[str, Sums] = {}
         for period in self.periods():
             if period.number < plan.state.period:
                 for nurse, of_period in sums_of_period(period, plan).items():
                     sums[nurse] = sums.get(nurse, Sums()).plus(of_period)
         return sums
 
-    def _before(self, days: PlanDays) -> Dict[str, Set[int]]:
+    def _before(self, days: PlanDays) -> dict[str, set[int]]:
         """The days of each nurse's shifts in plans of these days that hung on the wall, also in
         those that were undone."""
         return published_days([*self.folder.all_plans(), *self.folder.undone()], days)
 
 
-def plan_texts(plan: WardPlan, record: Record) -> Dict[str, str]:
+def plan_texts(plan: WardPlan, record: Record) -> dict[str, str]:
     """The files of a plan's folder. Its record has the bank holidays of the ward."""
     record = record._replace(holidays=tuple(sorted(plan.ward.holidays)))
     return {**plan.ward.texts, **state_texts(plan.state, record, plan.scenario, plan.histories)}
@@ -218,7 +216,7 @@ def wide_gap(plan: WardPlan) -> Gap | None:
     return gap if is_wide(*gap) else None
 
 
-def penalties(plan: WardPlan) -> Dict[int, int]:
+def penalties(plan: WardPlan) -> dict[int, int]:
     """The penalty of each week that is not over, by `inrc2pb extend`."""
     by_week = {}
     with tempfile.TemporaryDirectory(prefix="inrc2pb-plan-") as name:

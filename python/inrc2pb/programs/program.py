@@ -9,7 +9,7 @@ import subprocess
 import sys
 from dataclasses import dataclass, replace
 from pathlib import Path
-from typing import Callable, Dict, List, Optional, Sequence, Tuple, Union
+from typing import Callable, Sequence
 
 from ..week.faults import ProgramFault
 from ..week.soft_rules import SOFT_RULES
@@ -41,11 +41,11 @@ class WeekFiles:
     scenario: Path
     history: Path
     week: Path
-    fix: Optional[Path] = None
+    fix: Path | None = None
     early: bool = False
-    given: Optional[Path] = None
+    given: Path | None = None
 
-    def options(self) -> List[str]:
+    def options(self) -> list[str]:
         """The files as options of `inrc2pb`."""
         words = ["--sce", str(self.scenario), "--his", str(self.history), "--week", str(self.week)]
         return (
@@ -54,7 +54,7 @@ class WeekFiles:
             + (["--early"] if self.early else [])
         )
 
-    def all(self) -> Tuple[Path, ...]:
+    def all(self) -> tuple[Path, ...]:
         """All files that are read."""
         return (self.scenario, self.history, self.week, *filter(None, (self.fix, self.given)))
 
@@ -79,7 +79,7 @@ class Report:
     status: str
     objective: int
     penalty: int
-    by_rule: Dict[str, int]
+    by_rule: dict[str, int]
     text: str
 
     @property
@@ -88,7 +88,7 @@ class Report:
         return self.status == "OPTIMUM FOUND"
 
     @property
-    def last_o(self) -> Optional[int]:
+    def last_o(self) -> int | None:
         """The last number that the answer itself gave as its cost, if it gave one."""
         match = re.search(r"^last o (.*)$", self.text, re.MULTILINE)
         return int(match[1]) if match else None
@@ -140,7 +140,7 @@ def _is_inrc2pb(program: str) -> bool:
     return ran.returncode < 0 or ran.stdout.startswith(b"inrc2pb ")
 
 
-def run_program(*words: str, given: str = "", program: Optional[Path] = None) -> str:
+def run_program(*words: str, given: str = "", program: Path | None = None) -> str:
     """Runs `inrc2pb`, or another program, on these words and this standard input, and returns its
     standard output. Another program has no limit of time, since a proof may take long."""
     name = str(program or find_program())
@@ -207,7 +207,7 @@ def _signal_name(number: int) -> str:
         return f"signal {number}"
 
 
-def _encode_words(files: WeekFiles, model: Path) -> List[str]:
+def _encode_words(files: WeekFiles, model: Path) -> list[str]:
     return ["encode", *files.options(), "--opb", str(model)]
 
 
@@ -218,7 +218,7 @@ def encode(files: WeekFiles, model: Path) -> None:
 
 def run_unless_stopped(
     program: Path, words: Sequence[str], seconds: float, processes: Processes
-) -> Optional[str]:
+) -> str | None:
     """Runs a program as one of the `processes`, and returns its standard output; None if they are
     stopped before its end."""
     try:
@@ -243,7 +243,7 @@ def encode_unless_stopped(files: WeekFiles, model: Path, processes: Processes) -
         raise _does_not_end(words) from late
 
 
-def decode(files: WeekFiles, answer: Union[str, Path], solution: Optional[Path] = None) -> Report:
+def decode(files: WeekFiles, answer: str | Path, solution: Path | None = None) -> Report:
     """Checks a solver's answer, a text or a file, writes its roster to the file `solution`, and
     returns the report.
 
@@ -261,7 +261,7 @@ def answer_with(files: WeekFiles, roster: Path) -> str:
     return run_program("extend", *files.options(), "--from", str(roster))
 
 
-def extend(files: WeekFiles, roster: Path) -> Tuple[str, Report]:
+def extend(files: WeekFiles, roster: Path) -> tuple[str, Report]:
     """The answer whose roster this is, and its report. Raises ProgramFault if it breaks a hard
     rule."""
     answer = answer_with(files, roster)

@@ -3,7 +3,7 @@ weeks of rows of the sheet needs."""
 
 import datetime
 import re
-from typing import Iterator, List, NamedTuple, Optional
+from typing import Iterator, NamedTuple
 
 from ..week.dates import DAY, PlanDays, date_without_year, written_dates
 from ..week.records import DAYS, Scenario
@@ -28,8 +28,8 @@ class Days(NamedTuple):
     heads have dates, and all days of the sheet."""
 
     plan: Table
-    columns: List[SheetCell]
-    monday: Optional[datetime.date]
+    columns: list[SheetCell]
+    monday: datetime.date | None
     sheet: PlanDays
 
     @property
@@ -43,7 +43,7 @@ class Days(NamedTuple):
         return PlanDays(self.monday, self.weeks)
 
 
-def read_days(book: Book, period: Optional[PlanDays] = None) -> Days:
+def read_days(book: Book, period: PlanDays | None = None) -> Days:
     """The days of the sheet plan, whole weeks from Monday to Sunday; of these those of a period, if
     the sheet has them all."""
     plan = Table(book, "plan", ("nurse",), open_end=True)
@@ -114,13 +114,13 @@ def day_of_head(cell: SheetCell) -> int:
     )
 
 
-def week_of_head(cell: SheetCell) -> Optional[int]:
+def week_of_head(cell: SheetCell) -> int | None:
     """The number with which a head such as `Wed 1` ends, if it has one."""
     number = re.search("[0-9]{1,2}$", cell.text)
     return int(number.group()) if number else None
 
 
-def date_of(cell: SheetCell) -> Optional[datetime.date]:
+def date_of(cell: SheetCell) -> datetime.date | None:
     """The date in a head: written out, or as a number of a spreadsheet."""
     written = next((date for date in written_dates(cell.text) if date.year is not None), None)
     serial = _SERIAL.search(cell.text)
@@ -144,7 +144,7 @@ def date_of(cell: SheetCell) -> Optional[datetime.date]:
     return date
 
 
-def date_shown(cell: SheetCell, date: Optional[datetime.date]) -> str:
+def date_shown(cell: SheetCell, date: datetime.date | None) -> str:
     """What a spreadsheet shows in a cell with this date, if it has one."""
     return str(date) if date and cell.text.isdecimal() else cell.text
 
@@ -160,7 +160,7 @@ def _year_first(first: int, second: int, year: int) -> str:
 # ---- weeks of rows of the needs
 
 
-def date_of_row(cell: SheetCell, days: Days) -> Optional[datetime.date]:
+def date_of_row(cell: SheetCell, days: Days) -> datetime.date | None:
     """The date that a row of the needs has in place of a week, if it has one, also without its
     year."""
     date = date_of(cell)
@@ -172,7 +172,7 @@ def date_of_row(cell: SheetCell, days: Days) -> Optional[datetime.date]:
         cell.fault(f"there is no day {cell.text}: write a date such as {days.sheet.monday}")
 
 
-def week_of_row(cell: SheetCell, days: Days) -> Optional[int]:
+def week_of_row(cell: SheetCell, days: Days) -> int | None:
     """The week of a row of the needs, from 0, by its number, a calendar week or a date in it; None:
     all weeks; NO_WEEK: a date that is not in the plan, so that the row counts for none of its
     weeks."""

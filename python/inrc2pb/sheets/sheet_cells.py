@@ -2,7 +2,7 @@
 
 import re
 import unicodedata
-from typing import Collection, List, NamedTuple, NoReturn, Optional, Sequence
+from typing import Collection, NamedTuple, NoReturn, Sequence
 
 from ..week.faults import FileFault
 from ..week.records import DAYS
@@ -79,14 +79,14 @@ class SheetCell(NamedTuple):
         """Raises a fault of this cell."""
         raise FileFault(self.book.path, 0, f"{self.place}: {message}")
 
-    def parts(self) -> List["SheetCell"]:
+    def parts(self) -> list["SheetCell"]:
         """The cell as several, if it has a list with commas, semicolons or slashes."""
         return [
             self._replace(text=part.strip()) for part in _SEVERAL.split(self.text) if part.strip()
         ]
 
     def number(
-        self, default: Optional[int] = None, most: int = MAX_NUMBER, pair: str = "", typed: str = ""
+        self, default: int | None = None, most: int = MAX_NUMBER, pair: str = "", typed: str = ""
     ) -> int:
         """The whole number of the cell; an empty one has the default, if there is one. `pair` says
         how two numbers are written, if it may have them: a fault names it, and quotes what was

@@ -7,7 +7,7 @@ contract of her own.
 """
 
 from dataclasses import replace
-from typing import Collection, Iterator, List, Sequence, Tuple
+from typing import Collection, Iterator, Sequence
 
 from ..judging.leave import PartContract
 from ..week.facts import SHIFTS, WEEKENDS, Charged, Choice, Claim
@@ -23,11 +23,11 @@ from .ward_sheets import WardTables
 _AWAY = "away"
 
 
-def claims_of(ward: WardTables, history: History, weeks: List[WeekSheet]) -> List[Claim]:
+def claims_of(ward: WardTables, history: History, weeks: list[WeekSheet]) -> list[Claim]:
     """The absences, and the maxima that nurses never exceed, as facts about a plan that follows
     this history."""
     order = {nurse: number for number, nurse in enumerate(ward.scenario.nurses)}
-    claims: List[Claim] = []
+    claims: list[Claim] = []
     for number, week in enumerate(weeks, 1):
         for absence in sorted(
             set(week.absences), key=lambda away: (order[away.nurse], away.day, away.shift or "")
@@ -142,8 +142,8 @@ def look_warnings(book: Book, days: Days) -> Iterator[str]:
 
 
 def _colored_alone(
-    days: Days, colored: Collection[Tuple[int, int]]
-) -> Iterator[Tuple[int, List[int]]]:
+    days: Days, colored: Collection[tuple[int, int]]
+) -> Iterator[tuple[int, list[int]]]:
     """The rows of nurses, and the columns of their empty cells that have a color, unlike most cells
     beside and above them."""
     rows = [row.number - 1 for row in days.plan.rows]

@@ -12,7 +12,7 @@ import struct
 import zipfile
 import zlib
 from pathlib import Path
-from typing import Collection, Dict, Mapping, NamedTuple, Sequence
+from typing import Collection, Mapping, NamedTuple, Sequence
 from xml.etree import ElementTree
 from xml.parsers import expat
 
@@ -55,7 +55,7 @@ class Book(NamedTuple):
     """A spreadsheet that was read: its sheets are named in small letters."""
 
     path: Path
-    sheets: Dict[str, Rows]
+    sheets: dict[str, Rows]
     # The numbers of hidden rows.
     hidden: Mapping[str, Sequence[int]] = {}
     # The cells with a look that may mean something.
@@ -128,10 +128,10 @@ def _book(path: Path, grids: Mapping[str, Grid]) -> Book:
     )
 
 
-def _csv_files(folder: Path) -> Dict[str, Path]:
+def _csv_files(folder: Path) -> dict[str, Path]:
     """The files of a folder by their sheets. LibreOffice writes the sheet plan of ward.ods to
     ward-plan.csv."""
-    files: Dict[str, Path] = {}
+    files: dict[str, Path] = {}
     for file in sorted(folder.iterdir()):
         if file.suffix.lower() in (".csv", ".tsv") and file.is_file():
             sheet = file.stem.lower().rpartition("-")[2]

@@ -1,7 +1,7 @@
 """Reads the sheets of an ODS file, as LibreOffice writes it."""
 
 import re
-from typing import Dict, Iterator, Sequence, Set
+from typing import Iterator, Sequence
 from xml.etree.ElementTree import Element
 
 from .sheet_parts import (
@@ -23,9 +23,9 @@ _TABLE, _TEXT, _OFFICE, _STYLE, _FO = map(
 )
 
 
-def grids(parts: Parts) -> Dict[str, Grid]:
+def grids(parts: Parts) -> dict[str, Grid]:
     """The sheets by their names in small letters."""
-    found: Dict[str, Grid] = {}
+    found: dict[str, Grid] = {}
     content = parts.read("content.xml")
     looks = _looks(content)
     concealed = _concealed(content)
@@ -63,7 +63,7 @@ def _read_columns(table: Element, grid: Grid) -> None:
         number = end
 
 
-def _concealed(content: Element) -> Set[str]:
+def _concealed(content: Element) -> set[str]:
     """The styles of sheets that are hidden."""
     return {
         style.get(_STYLE + "name", "")
@@ -73,7 +73,7 @@ def _concealed(content: Element) -> Set[str]:
     }
 
 
-def _read(table: Element, grid: Grid, looks: Dict[str, Look]) -> None:
+def _read(table: Element, grid: Grid, looks: dict[str, Look]) -> None:
     """Reads the rows of a sheet. Empty ones at its end may be repeated a million times."""
     number = 0
     for row in _rows(table):
@@ -143,9 +143,9 @@ def _text(element: Element) -> Iterator[str]:
         yield part.tail or ""
 
 
-def _looks(content: Element) -> Dict[str, Look]:
+def _looks(content: Element) -> dict[str, Look]:
     """The looks of the styles of an ODS file, by their names."""
-    looks: Dict[str, Look] = {}
+    looks: dict[str, Look] = {}
     for style in content.iter(_STYLE + "style"):
         texts = style.findall(_STYLE + "text-properties")
         lines = {part.get(_STYLE + "text-line-through-style", "none") for part in texts}
@@ -161,7 +161,7 @@ def _looks(content: Element) -> Dict[str, Look]:
     return looks
 
 
-def _is_struck(cell: Element, looks: Dict[str, Look]) -> bool:
+def _is_struck(cell: Element, looks: dict[str, Look]) -> bool:
     """Whether a part of the text of a cell is struck through."""
     return any(
         looks.get(part.get(_TEXT + "style-name", ""), Look()).struck

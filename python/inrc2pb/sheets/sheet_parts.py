@@ -3,7 +3,7 @@
 import re
 import zipfile
 from pathlib import Path
-from typing import Dict, List, NamedTuple, Sequence, Set, Tuple
+from typing import NamedTuple, Sequence
 from xml.etree import ElementTree
 from xml.parsers import expat
 
@@ -24,9 +24,9 @@ SHEETS = ("shifts", "contracts", "nurses", "needs", "plan")
 # A number that is no whole one by the last of its digits only, as 0.1 * 30 is.
 NEARLY = 1e-9
 _SUM = re.compile(r"(?:of:)?=?([0-9]{1,4}\+[0-9]{1,4})")
-Rows = List[List[str]]
+Rows = list[list[str]]
 # The rows and columns of cells that are one.
-Merged = Tuple[range, range]
+Merged = tuple[range, range]
 # The most rows and columns of one cell that is repeated, whose look counts: more are filled outside
 # the table.
 _MOST_REPEATED = 50, 400
@@ -55,10 +55,10 @@ class Marks(NamedTuple):
     """The rows and columns of cells whose text is struck through, of those that have a color, of
     those whose text is as white as the cell, and of those that have a comment."""
 
-    struck: Set[Tuple[int, int]]
-    colored: Set[Tuple[int, int]]
-    white: Set[Tuple[int, int]]
-    commented: Set[Tuple[int, int]]
+    struck: set[tuple[int, int]]
+    colored: set[tuple[int, int]]
+    white: set[tuple[int, int]]
+    commented: set[tuple[int, int]]
 
 
 class Parts:
@@ -101,7 +101,7 @@ class Parts:
             " of the ward"
         )
 
-        def count(_name: str, attributes: Dict[str, str]) -> None:
+        def count(_name: str, attributes: dict[str, str]) -> None:
             nonlocal left
             left -= 1 + len(attributes)
             if left < 0:
@@ -144,10 +144,10 @@ class Grid:
     def __init__(self, sheet: str, parts: Parts) -> None:
         self.name = sheet
         self._parts = parts
-        self._cells: Dict[int, Dict[int, str]] = {}
-        self.merged: List[Merged] = []
-        self.hidden: List[int] = []
-        self.columns: List[int] = []
+        self._cells: dict[int, dict[int, str]] = {}
+        self.merged: list[Merged] = []
+        self.hidden: list[int] = []
+        self.columns: list[int] = []
         self.is_shown = True
         self.marks = Marks(set(), set(), set(), set())
 
@@ -193,7 +193,7 @@ class Grid:
         return trimmed(texts)
 
 
-def new_grid(name: str, parts: Parts, grids: Dict[str, Grid]) -> Grid:
+def new_grid(name: str, parts: Parts, grids: dict[str, Grid]) -> Grid:
     """The grid of one more sheet. Raises FileFault if a sheet of a ward is there twice."""
     key = name.strip().lower()
     if key in SHEETS and key in grids:

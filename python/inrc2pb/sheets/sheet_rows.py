@@ -2,7 +2,7 @@
 column and cure."""
 
 import re
-from typing import Collection, Dict, Iterator, List, NoReturn, Optional, Sequence, Tuple
+from typing import Collection, Iterator, NoReturn, Sequence
 
 from ..week.faults import FileFault, Gathering
 from ..week.slots import closest
@@ -62,11 +62,11 @@ class Table:
         self.name = name
         self.heads = heads
         self.optional = optional
-        self.columns: Dict[str, int] = {}
+        self.columns: dict[str, int] = {}
         # The heads with the sign for maxima that are never exceeded.
-        self.kept: Dict[str, SheetCell] = {}
+        self.kept: dict[str, SheetCell] = {}
         # The columns after those with a known head, if the sheet may have any number of them.
-        self.others: List[SheetCell] = []
+        self.others: list[SheetCell] = []
         rows = self._sheet()
         first = self._find_head(rows)
         head, begin = _joined_head(rows, first, open_end)
@@ -110,7 +110,7 @@ class Table:
             )
         return self.book.sheets[self.name]
 
-    def _renamed(self) -> Optional[str]:
+    def _renamed(self) -> str | None:
         """The sheet that most likely was this one: one with its name in it, or the only other one
         if no other sheet of a ward is missing."""
         others = [name for name in self.book.sheets if name not in SHEETS]
@@ -158,7 +158,7 @@ class Table:
     def _check_heads(self, columns: Collection[int], number: int) -> None:
         """A fault names the first cell of each column without a head. The given columns have one,
         in the row of this number."""
-        first: Dict[int, SheetCell] = {}
+        first: dict[int, SheetCell] = {}
         for row in self.rows:
             for cell in row.outside(columns):
                 first.setdefault(cell.column, cell)
@@ -189,7 +189,7 @@ class Table:
                                 " or write the value"
                             )
 
-    def _meant(self, head: str, taken: Collection[str]) -> Optional[str]:
+    def _meant(self, head: str, taken: Collection[str]) -> str | None:
         """The column that a wrong head most likely means: none that the sheet has already."""
         free = [name for name in (*self.heads, *self.optional) if name not in taken]
         return closest(head, free) or next(
@@ -197,7 +197,7 @@ class Table:
         )
 
 
-def _joined_head(rows: Rows, first: int, open_end: bool) -> Tuple[List[str], int]:
+def _joined_head(rows: Rows, first: int, open_end: bool) -> tuple[list[str], int]:
     """The heads, and the first row below them. A head over several columns is joined with the row
     below it, and dates with days."""
     head = [tidy(cell) for cell in rows[first]]

@@ -3,7 +3,7 @@
 import datetime
 import posixpath
 import re
-from typing import Dict, List, NamedTuple, Sequence
+from typing import NamedTuple, Sequence
 from xml.etree.ElementTree import Element
 
 from .sheet_parts import (
@@ -46,7 +46,7 @@ class _Texts(NamedTuple):
     zero: datetime.date
 
 
-def grids(parts: Parts) -> Dict[str, Grid]:
+def grids(parts: Parts) -> dict[str, Grid]:
     """The sheets by their names in small letters."""
     items = (
         _all(parts.read("xl/sharedStrings.xml"), "si") if parts.has("xl/sharedStrings.xml") else []
@@ -62,7 +62,7 @@ def grids(parts: Parts) -> Dict[str, Grid]:
         link.get("Id", ""): _path(link.get("Target", ""))
         for link in parts.read("xl/_rels/workbook.xml.rels")
     }
-    found: Dict[str, Grid] = {}
+    found: dict[str, Grid] = {}
     for sheet in _all(parts.read("xl/workbook.xml"), "sheet"):
         target = targets[next(filter(None, map(sheet.get, _LINK)), "")]
         if "worksheets" in target:
@@ -88,7 +88,7 @@ def _path(target: str) -> str:
     return target[1:] if target.startswith("/") else f"xl/{target}"
 
 
-def _all(element: Element, name: str) -> List[Element]:
+def _all(element: Element, name: str) -> list[Element]:
     return [part for space in MAIN_SPACES for part in element.iter(space + name)]
 
 
@@ -174,7 +174,7 @@ def _text(item: Element) -> str:
     return "".join(part.text or "" for part in _all(item, "t") if part not in spoken)
 
 
-def _looks(parts: Parts) -> List[Look]:
+def _looks(parts: Parts) -> list[Look]:
     """The looks of the cell formats of an XLSX file, by their numbers."""
     if not parts.has("xl/styles.xml"):
         return []
@@ -249,7 +249,7 @@ def _is_solid(pattern: Element) -> bool:
     return pattern.get("patternType", "none") not in ("none", "gray125")
 
 
-def _children(styles: Element, group: str, name: str) -> List[Element]:
+def _children(styles: Element, group: str, name: str) -> list[Element]:
     """The members of a group of styles."""
     return [
         part
@@ -259,5 +259,5 @@ def _children(styles: Element, group: str, name: str) -> List[Element]:
     ]
 
 
-def _at(values: List[bool], number: str) -> bool:
+def _at(values: list[bool], number: str) -> bool:
     return number.isdigit() and int(number) < len(values) and values[int(number)]

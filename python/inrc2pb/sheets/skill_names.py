@@ -1,7 +1,7 @@
 """The names of skills: the sheet needs asks for them, and the sheet nurses has them."""
 
 import re
-from typing import Collection, Dict, List, Tuple
+from typing import Collection
 
 from ..week.faults import Gathering
 from .sheet_cells import SheetCell
@@ -16,12 +16,12 @@ class SkillNames:
         self._names = [name.replace(" ", "_") for name in asked]
         any_skill = "|".join(map(re.escape, sorted(self._asked, key=len, reverse=True)))
         self._several = re.compile(f"({any_skill})((?: and | ?[&+] ?| )({any_skill}))+")
-        self.cells: Dict[str, SheetCell] = {}
+        self.cells: dict[str, SheetCell] = {}
 
-    def of(self, cell: SheetCell, faults: Gathering) -> Tuple[str, ...]:
+    def of(self, cell: SheetCell, faults: Gathering) -> tuple[str, ...]:
         """The skills of a nurse. After a fault all that the needs ask for are known, since she may
         have meant any of them."""
-        skills: List[str] = []
+        skills: list[str] = []
         with faults.step():
             if not cell.parts():
                 cell.fault("the cell is empty: write the nurse's skills, such as Charge, Nurse")

@@ -3,7 +3,7 @@ given."""
 
 import datetime
 from pathlib import Path
-from typing import Dict, List, Sequence
+from typing import Sequence
 
 from ..week.dates import DAY, date_text
 from ..week.faults import Misuse
@@ -14,7 +14,7 @@ from .ods_file import cell, sheet, write_sheets
 Rows = Sequence[Sequence[object]]
 
 
-def _days(*weeks: str) -> List[str]:
+def _days(*weeks: str) -> list[str]:
     """The cells of some weeks, each given as `leave on Mon, wish on Sat`."""
     given = [{part[-3:]: part[: -len(" on Mon")] for part in week.split(", ")} for week in weeks]
     return [cells.get(day, "") for cells in given for day in DAYS]
@@ -27,7 +27,7 @@ HOLIDAY_NOTE = (
     " 0+1 for Fri only"
 )
 # The plan of the example has four weeks, and its days have no dates.
-EXAMPLE: Dict[str, Rows] = {
+EXAMPLE: dict[str, Rows] = {
     "shifts": [
         ("shift", "min in a row", "max in a row", "not followed by", "times"),
         ("Day", 2, 5, "", "07:00-15:30"),
@@ -98,7 +98,7 @@ def next_monday(today: datetime.date) -> datetime.date:
     return today + (WEEK_DAYS - today.weekday()) * DAY
 
 
-def dated_example(monday: datetime.date) -> Dict[str, Rows]:
+def dated_example(monday: datetime.date) -> dict[str, Rows]:
     """The example with dates from this Monday on."""
     heads, *rows = EXAMPLE["plan"]
     dates = [monday + day * DAY for day in range(len(heads) - 1)]

@@ -1,7 +1,7 @@
 """The rows of the needs that have a week. In the next period the weeks of such rows, as those of
 bank holidays, count anew."""
 
-from typing import Iterable, List, Mapping, NamedTuple
+from typing import Iterable, Mapping, NamedTuple
 
 from ..week.records import DAYS, Place, Requirement
 from .plan_days import NO_WEEK, Days, date_of, week_of_row
@@ -22,7 +22,7 @@ class WeekRow(NamedTuple):
     needs: Needs
 
 
-def week_rows(book: Book, days: Days) -> List[WeekRow]:
+def week_rows(book: Book, days: Days) -> list[WeekRow]:
     """The rows that have a week of these days, by its number, since a date is of one period only.
     The book has no faults."""
     cells = ((row, row.of("week")) for row in table_of(book, "needs").rows)
@@ -42,7 +42,7 @@ def _needs_of(row: SheetRow) -> Needs:
     return {Place(day, shift, skill): needed(cell) for day, cell in enumerate(cells) if cell.text}
 
 
-def unchanged_rows(rows: Iterable[WeekRow], older: Mapping[int, Needs]) -> List[WeekRow]:
+def unchanged_rows(rows: Iterable[WeekRow], older: Mapping[int, Needs]) -> list[WeekRow]:
     """The rows that have the numbers of the same week of an older period, so nobody has made them
     those of this one yet."""
     unchanged = []

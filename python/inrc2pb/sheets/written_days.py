@@ -1,6 +1,6 @@
 """The days away that verbs have written: each counts as if it were in the spreadsheet's plan."""
 
-from typing import Collection, Dict, Iterable, Mapping, NamedTuple, Optional, Sequence, Tuple
+from typing import Collection, Iterable, Mapping, NamedTuple, Sequence
 
 from ..judging.leave import ILL
 from ..week.records import NurseDay
@@ -25,7 +25,7 @@ class DayWord(NamedTuple):
     nurse: str
     day: int
     word: str
-    lost: Optional[int] = None
+    lost: int | None = None
 
 
 def with_days(
@@ -34,7 +34,7 @@ def with_days(
     days: Iterable[int],
     word: str,
     lost: Mapping[int, int] = {},
-) -> Tuple[DayWord, ...]:
+) -> tuple[DayWord, ...]:
     """The absences with this word for these days of a nurse, in place of older ones, or, if she is
     ill, above them; `lost` has the shifts that her illness takes from a plan on the wall."""
     new = [DayWord(nurse, day, word, lost.get(day)) for day in days]
@@ -51,7 +51,7 @@ def with_days(
 
 def without_last(
     absences: Sequence[DayWord], nurse: str, days: Collection[int]
-) -> Tuple[DayWord, ...]:
+) -> tuple[DayWord, ...]:
     """The absences without the last one of each of these days of a nurse: the one below it holds
     again, or else what the spreadsheet says."""
     words = {
@@ -69,12 +69,12 @@ def without_last(
     )
 
 
-def words_by_day(absences: Sequence[DayWord], nurse: str) -> Dict[int, str]:
+def words_by_day(absences: Sequence[DayWord], nurse: str) -> dict[int, str]:
     """The word that holds on each day of a nurse for which a verb has written one."""
     return {absence.day: absence.word for absence in absences if absence.nurse == nurse}
 
 
-def lost_shifts(absences: Sequence[DayWord]) -> Dict[NurseDay, int]:
+def lost_shifts(absences: Sequence[DayWord]) -> dict[NurseDay, int]:
     """The shifts that illnesses have taken from plans on the wall, by the last word of each day
     that says it."""
     known = {NurseDay(absence.nurse, absence.day): absence.lost for absence in absences}

@@ -3,7 +3,7 @@ are over."""
 
 import datetime
 from dataclasses import dataclass, replace
-from typing import Iterator, List, Optional, Tuple, Union
+from typing import Iterator
 
 from ...week.dates import OtherPlan
 from ...week.faults import Misuse
@@ -25,13 +25,13 @@ class WeekOver(Outcome):
     old: WardPlan
     corrections: Corrections
     # The plan that goes on; None after the last week of a period.
-    next: Optional[WardPlan]
+    next: WardPlan | None
     # The plan of the next period, before and after this; None if there is none.
-    following: Tuple[Optional[WardPlan], Optional[WardPlan]] = (None, None)
+    following: tuple[WardPlan | None, WardPlan | None] = (None, None)
     # The date on which this is asked for, if the week has not ended then.
-    early: Optional[datetime.date] = None
+    early: datetime.date | None = None
 
-    def lines(self, write: str = "") -> List[str]:
+    def lines(self, write: str = "") -> list[str]:
         """What was worked otherwise than planned, and with which week the plan goes on, or how the
         next period begins."""
         said = self.corrections.lines()
@@ -42,17 +42,17 @@ class WeekOver(Outcome):
             return said
         return [*said, *(self._goes_on(self.next) if self.next else self._period_over())]
 
-    def question(self) -> List[str]:
+    def question(self) -> list[str]:
         """The corrections, which the user has typed."""
         return [*self._early(), *(self.corrections.lines() or ["as it was planned"])]
 
     @property
-    def plans(self) -> Tuple[WardPlan, ...]:
+    def plans(self) -> tuple[WardPlan, ...]:
         """The plan with the week as it was worked, before and after its end."""
         worked = self.corrections.with_open(self.old.state.open_week)
         return (worked, self.next) if self.next else (worked,)
 
-    def _early(self) -> List[str]:
+    def _early(self) -> list[str]:
         """That the week has not ended."""
         if not self.early:
             return []
@@ -63,7 +63,7 @@ class WeekOver(Outcome):
             f"{self.old.days.week_text(number)} has not ended: today is {today}, before {last} ends"
         ]
 
-    def _goes_on(self, new: WardPlan) -> List[str]:
+    def _goes_on(self, new: WardPlan) -> list[str]:
         """The plan goes on."""
         begin = (
             f"{self.old.days.week_text(self.old.state.open_week)} is over: the plan goes on from"
@@ -71,7 +71,7 @@ class WeekOver(Outcome):
         )
         return [begin, *follow_lines(self.old, new), *self.pages.lines()]
 
-    def _period_over(self) -> List[str]:
+    def _period_over(self) -> list[str]:
         """The period is over: with which day the next one goes on, or what to write for it."""
         days = self.old.days.next()
         before, now = self.following
@@ -101,23 +101,23 @@ class Corrected(Outcome):
     # The plan of their period.
     plan: WardPlan
     # The plan that holds, before and after them; None if there is none yet.
-    before: Optional[WardPlan]
-    now: Optional[WardPlan]
+    before: WardPlan | None
+    now: WardPlan | None
     # The plan of the next period, if that is another one.
-    following: Tuple[Optional[WardPlan], Optional[WardPlan]] = (None, None)
+    following: tuple[WardPlan | None, WardPlan | None] = (None, None)
 
-    def question(self) -> List[str]:
+    def question(self) -> list[str]:
         """What changes."""
         return self._said()
 
-    def lines(self, write: str = "") -> List[str]:
+    def lines(self, write: str = "") -> list[str]:
         """What was worked otherwise, and what follows."""
         if not self.is_written:
             exceeded = [*(exceeded_lines(self.now) if self.now else [])]
             return [*self._said(), *exceeded, *([not_written_text(write)] if write else [])]
         return [*self._said(), *self.pages.lines()]
 
-    def _said(self) -> List[str]:
+    def _said(self) -> list[str]:
         days = self.corrections.old.days
         weeks = days.weeks_text(sorted(self.corrections.weeks))
         pairs = ((self.before, self.now), self.following)
@@ -125,7 +125,7 @@ class Corrected(Outcome):
         return [*self.corrections.lines(), f"this corrects {weeks}: no week ends", *follows]
 
 
-def _asked(store: PlanStore, event: Event) -> Union[WeekOver, Corrected]:
+def _asked(store: PlanStore, event: Event) -> WeekOver | Corrected:
     """What the words come to. Days of an older period are looked for in it if the one that runs
     does not have them, or is not planned yet."""
     try:
@@ -196,7 +196,7 @@ def _check_dates(store: PlanStore, corrections: Corrections) -> None:
             )
 
 
-def _done(store: PlanStore, event: Event) -> Union[WeekOver, Corrected]:
+def _done(store: PlanStore, event: Event) -> WeekOver | Corrected:
     """After the last week of a period a new one begins."""
     found = _asked(store, event)
     if isinstance(found, Corrected):
