@@ -37,14 +37,14 @@ WEEKENDS = "WE"
 SUM_HEADS = {
     "shifts": "\u03a3",
     "hours": "h",
-    "nights": "nights",
+    "nights": "Nt",
     "weekends": WEEKENDS,
     "wishes granted": "W",
 }
 MEANINGS_OF_SUMS = {
     "shifts": "shifts in the period, with those as which days away count",
     "hours": "hours of these, {} for each day away that counts as a shift",
-    "nights": "shifts that take a part of the night",
+    "nights": "nights",
     "weekends": "weekends with work",
     "wishes granted": "wishes granted, of all",
 }

@@ -138,7 +138,7 @@ class Rosters(PageTest):
             [
                 "\u03a3 = shifts in the period, with those as which days away count",
                 "h = hours of these, 8:35 hours for each day away that counts as a shift",
-                "nights = shifts that take a part of the night",
+                "Nt = nights",
                 "WE = weekends with work",
                 "W = wishes granted, of all",
             ],
