@@ -13,15 +13,14 @@ from ..programs.clock import Clock
 from ..programs.inputs import Inputs
 from ..programs.interrupts import interrupts
 from ..programs.locks import locked
-from ..programs.program import NO_ROSTER, Report, extend
+from ..programs.program import NO_ROSTER, Report
 from ..programs.progress import Progress
 from ..search.improving import search
-from ..search.kept_file import KeptFile
-from ..search.period_search import PeriodSearch
+from ..search.best_plan import BestPlan
+from ..search.plan_search import PlanSearch
 from ..search.planned_weeks import PeriodFiles, PlannedWeeks
+from ..search.roster_file import RosterFile
 from ..week.faults import Misuse, ProgramFault
-from ..week.files import solution_text
-from ..week.records import WEEK_DAYS, Cell, Solution
 from ..week.writing import check_inputs_stay, check_no_pipes, check_target, write_text
 from .arguments import Parser, parser
 from .week_options import add_solver_option, check_seconds, number_of_seconds
@@ -61,31 +60,19 @@ def plan_ahead(
     """Plans the week, which is the first of all weeks that are left, and writes its roster, which
     takes the place of no input. Also returns the fault that ended the search after the roster was
     found."""
-    week = weeks.history.week
-    file = KeptFile(solution, inputs)
-    text = ""
-
-    def keep(cells: Sequence[Cell]) -> None:
-        nonlocal text
-        text = solution_text(
-            Solution(
-                week, weeks.scenario.name, tuple(cell for cell in cells if cell.day < WEEK_DAYS)
-            )
-        )
-        file.write(text)
-
-    running = PeriodSearch(weeks, keep, Clock(seconds), Progress(None))
+    best = BestPlan(weeks, RosterFile(weeks, solution, inputs))
+    running = PlanSearch(weeks, best, Clock(seconds), Progress(None))
     ended: BaseException | None = None
     with interrupts() as signals, signals.calling(running.interrupt):
         try:
             running.run()
         except Exception as fault:
-            if running.penalty is None:
-                raise
             ended = fault
-    if not file.has(text):
-        file.write(text)
-    return extend(weeks.week_files(week), solution)[1], ended
+    best.look_again()
+    report = best.report()
+    if report is None:
+        raise ended or ProgramFault(NO_ROSTER, "no roster was found")
+    return report, ended
 
 
 def _planned(

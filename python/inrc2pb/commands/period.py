@@ -13,9 +13,11 @@ from ..programs.interrupts import Interrupts, interrupts
 from ..programs.locks import locked
 from ..programs.program import Report, extend, find_program
 from ..programs.progress import Progress
+from ..search.best_plan import BestPlan
+from ..search.bounds import PLAIN
 from ..search.improving import SearchResult, search
-from ..search.period_search import PeriodSearch
 from ..search.plan_folder import PlanFolder
+from ..search.plan_search import PlanSearch
 from ..search.planned_weeks import PeriodFiles, PlannedWeeks, WrittenWeek, history_name, roster_name
 from ..week.faults import FileFault, Misuse, ProgramFault, Stopped, fault_line
 from ..week.files import read_solution, write_history
@@ -57,7 +59,7 @@ class PeriodRun:
                 _read_start(self._inputs.copy(path), number, self.weeks.scenario)
                 for number, path in zip(self.numbers, starts)
             ]
-        self._plan_folder = PlanFolder(self.weeks, folder, self.progress.warn, files.all())
+        self._plan_folder = PlanFolder(self.weeks, folder, files.all())
         if starts and len(starts) != len(self.numbers):
             weeks = plural(len(self.numbers), "week")
             raise Misuse(
@@ -109,36 +111,41 @@ class PeriodRun:
         for hint in self.weeks.hints:
             self.progress.warn(hint)
         folder = self._plan_folder
-        earlier = self._earlier()
-        others = folder.others if not self.weeks.later() else lambda: None
-        running = PeriodSearch(
-            self.weeks,
-            folder.keep,
-            Clock(seconds),
-            progress=self.progress,
-            proof=self._proof,
-            start=earlier,
-            seed=self._seed,
-            others=others,
+        best = BestPlan(self.weeks, folder, self.progress.improved, self.progress.warn)
+        running = PlanSearch(
+            self.weeks, best, Clock(seconds), self.progress, self._proof, self._seed
         )
+        earlier = self._earlier()
         with interrupts() as signals, self._inputs.naming():
             try:
                 with signals.calling(running.interrupt):
-                    running.run()
-                for warning in running.not_kept():
+                    running.run(earlier)
+                for warning in self.weeks.warnings(best.cells):
                     self.progress.warn(warning)
             finally:
+                best.look_again()
                 for number, week in zip(self.numbers, folder.written()):
                     self._report(number, week.roster, extend(*week)[1])
-                self.bound_lines = [running.line()]
+                self.bound_lines = [self._bound_line(running, best)]
             self._end(signals)
 
-    def _earlier(self) -> list[Cell] | None:
+    def _bound_line(self, running: PlanSearch, best: BestPlan) -> str:
+        """The line about the bound of all weeks together."""
+        if self.weeks.later():
+            later = len(self.weeks.later())
+            return f"planned ahead of {later} weeks that are not known: no lower bound"
+        if running.bound is None or best.cost is None:
+            return "no lower bound"
+        lines = running.bound.lines(best.cost, "plan", " of the sum")
+        is_proved = len(lines) > 1 and running.bound.by != PLAIN
+        return ": ".join(lines) + (", proved" if is_proved else "")
+
+    def _earlier(self) -> Sequence[Cell] | None:
         """The plan to begin with, with days from the first week on: the one that was given, or that
         the folder has; None if it has none of these weeks, or others come after them."""
         if not self._starts:
             return None if self.weeks.later() else self._plan_folder.others()
-        return list(in_plan(roster.cells for roster in self._starts)) or None
+        return in_plan(roster.cells for roster in self._starts) or None
 
     def plan_one_by_one(self, seconds: float, solver: str | None) -> None:
         """Plans each week before the next one, by the search over one week or a user's own solver,

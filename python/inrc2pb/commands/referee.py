@@ -14,7 +14,6 @@ from ..programs.program import FAULT, WeekFiles
 from ..programs.progress import Progress
 from ..search.bounds import PROVER
 from ..search.claims import FALSE, Answered, Kind, Verdict, judged, read_answer
-from ..search.improving import held_rows, read_week_given
 from ..search.referee import SECONDS, Referee
 from ..week.writing import (
     check_inputs_stay,
@@ -24,12 +23,7 @@ from ..week.writing import (
     check_target,
 )
 from .arguments import Parser, parser
-from .week_options import (
-    add_weeks_options,
-    check_seconds,
-    number_of_seconds,
-    the_week,
-)
+from .week_options import add_weeks_options, check_seconds, number_of_seconds, the_week
 
 
 def options() -> Parser:
@@ -118,10 +112,10 @@ def _judge(
 ) -> _Judged:
     """Judges the answers, with files in this folder; none of those that are read is replaced."""
     signals = Interrupts()
-    week = read_week_given(files)
-    held = held_rows(files.fix, week, progress.warn) if files.fix else ()
     target = (given.out or folder / "best.txt").absolute()
-    referee = Referee(files, week, held, target, progress, read)
+    referee = Referee(files, target, progress, read)
+    for hint in referee.hints:
+        progress.warn(hint)
     if given.out:
         referee.best.resume()
     for roster in given.roster:

@@ -5,7 +5,7 @@ import enum
 import tempfile
 from dataclasses import replace
 from pathlib import Path
-from typing import Iterator, Mapping, NamedTuple, Sequence
+from typing import Iterator, Mapping, NamedTuple
 
 from ..judging.days_away import DaysAway
 from ..judging.runs import ANY_CHOICE
@@ -14,8 +14,9 @@ from ..programs.interrupts import interrupts
 from ..programs.program import WeekFiles
 from ..programs.progress import Progress
 from ..rows.plan import Calls
+from ..search.best_plan import BestPlan
 from ..search.bounds import PLAIN, Bound
-from ..search.period_search import PeriodSearch
+from ..search.plan_search import PlanSearch
 from ..search.planned_weeks import PeriodFiles, PlannedWeeks, history_name
 from ..search.why_none import Shortage, why_none
 from ..week.facts import Choice, Claim, Fact, facts_text
@@ -92,7 +93,6 @@ class Found(NamedTuple):
 
 def search_plan(old: WardPlan, asked: Asked, progress: Progress) -> Found:
     """The best plan of the weeks that are not over. It begins with the old one, if there is one."""
-    kept: list[Sequence[Cell]] = []
     with tempfile.TemporaryDirectory(prefix="inrc2pb-plan-") as name:
         files = _files(old, asked, Path(name))
         beside = old.days_away._replace(fixed=asked.first - old.first)
@@ -111,37 +111,27 @@ def search_plan(old: WardPlan, asked: Asked, progress: Progress) -> Found:
             else None
         )
         clock = Clock(asked.seconds)
+        best = BestPlan(weeks, announce=progress.improved, warn=progress.warn)
         # A search may count points that a plan has not: then its bound says nothing of plans.
         is_bounded = not asked.few_changes and asked.agreed is not Keep.MOST
-        search = PeriodSearch(
-            weeks,
-            kept.append,
-            clock,
-            progress,
-            start=start,
-            is_bounded=is_bounded,
-            patience=asked.patience,
+        search = PlanSearch(
+            weeks, best, clock, progress, is_bounded=is_bounded, patience=asked.patience
         )
         with interrupts() as signals, signals.calling(search.interrupt):
             try:
-                search.run()
+                search.run(start)
             except Exception as fault:
-                if not kept:
+                if best.rank is None:
                     raise
                 progress.warn(fault_line(fault))
-    cells = [cell._replace(day=cell.day + old.first) for cell in kept[-1]]
+    cells = [cell._replace(day=cell.day + old.first) for cell in best.cells]
     labelled = with_old_skills(old.scenario, cells, [*old.cells, *old.held.values()])
-    bound = known_bound(search)
-    if bound:
-        bound = bound._replace(has_runs=bool(beside.kept))
+    bound = (
+        KnownBound(best.cost, search.bound, search.bound_beside, bool(beside.kept))
+        if search.bound and best.cost is not None
+        else None
+    )
     return Found(old.with_cells(labelled), bound, clock.stopped)
-
-
-def known_bound(search: PeriodSearch) -> KnownBound | None:
-    """What a search knows of all other plans."""
-    if search.bound is None or search.penalty is None:
-        return None
-    return KnownBound(search.penalty, search.bound, search.bound_beside)
 
 
 def _older_rows(old: WardPlan) -> dict[str, bytes]:

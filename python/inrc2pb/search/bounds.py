@@ -6,12 +6,13 @@ import re
 import tempfile
 from dataclasses import dataclass, replace
 from pathlib import Path
-from typing import Callable, List, Optional, Sequence
+from typing import Callable, Optional, Sequence
 
 from ..judging.days_away import DaysAway
 from ..programs.clock import Clock, TimeIsOver
 from ..programs.processes import Processes
-from ..programs.program import NotInTime, WeekFiles, find_program, run_unless_stopped
+from ..programs.program import NotInTime, find_program, run_unless_stopped
+from ..programs.progress import gap_share
 from ..rows.case_pricing import CasePricing
 from ..rows.certificate import Certificate
 from ..rows.plan import FREE, STRICT, Calls, Keeping, Plan, Points
@@ -45,6 +46,17 @@ class Bound:
     points: int
     by: str
     only: str = ""
+
+    def lines(self, penalty: int, what: str, of: str = "") -> list[str]:
+        """The bound, and what it says of a roster or plan with this penalty; `of` names what the
+        points are."""
+        only = f" with all {self.only}" if self.only else ""
+        bound = f"lower bound {self.points}{of}{only} ({self.by})"
+        if penalty > self.points:
+            gap = penalty - self.points
+            return [f"{bound}: the gap is {gap}, {gap_share(penalty, self.points)}"]
+        keeping = f" that keeps all {self.only}" if self.only else ""
+        return [bound, f"no {what}{keeping} costs less"]
 
     def is_believed(self, penalty: Optional[int]) -> bool:
         """Whether no roster that it holds for, with this penalty, refutes it."""
@@ -182,10 +194,3 @@ def _only(plan: Plan, keeping: Keeping) -> str:
     return " and ".join(
         word for word, is_kept in (("absences", away), ("limits", limits)) if is_kept
     )
-
-
-def week_options(files: WeekFiles) -> List[str]:
-    """The options of a week's files. Weeks are counted from 1."""
-    words = ["--sce", str(files.scenario), "--his", str(files.history), "--week", str(files.week)]
-    words += ["--fix", f"1={files.fix}"] if files.fix else []
-    return [*words, "--early"] if files.early else words

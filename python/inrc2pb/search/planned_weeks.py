@@ -50,7 +50,8 @@ class PeriodFiles:
     their index, from 0.
 
     With `ahead` the weeks after them are not known yet, and count with the numbers of these.
-    `given` has the facts that plans keep.
+    `given` has the facts that plans keep. A week that `is_alone` is planned for itself, and no part
+    of a plan of several weeks.
     """
 
     scenario: Path
@@ -60,6 +61,20 @@ class PeriodFiles:
     early: bool = False
     ahead: bool = False
     given: Optional[Path] = None
+    is_alone: bool = False
+
+    @classmethod
+    def of_week(cls, files: WeekFiles) -> "PeriodFiles":
+        """The files of a week that is planned for itself."""
+        return cls(
+            files.scenario,
+            files.history,
+            [files.week],
+            {0: files.fix} if files.fix else {},
+            files.early,
+            given=files.given,
+            is_alone=True,
+        )
 
     def all(self) -> Tuple[Path, ...]:
         """All files that are read."""
@@ -202,25 +217,28 @@ class PlannedWeeks:
 
     def warnings(self, cells: Sequence[Cell]) -> Iterator[str]:
         """The weeks in which these assignments break an absence or exceed a limit, who works then,
-        and what to do."""
+        and what to do. One week alone is not named."""
         for index, (week, of_week) in enumerate(self.each(cells)):
             broken = working_while_away(absences_of(week.data), of_week)
             over = exceeded(week, week.data.limits, of_week)
+            lines: List[str] = []
             if broken:
-                yield (
-                    f"{week_name(week.history.week)}: no roster was found that keeps every absence:"
-                    f" {in_words(broken)}"
-                )
-                yield (
-                    f"{week_name(week.history.week)}:"
-                    f" {way_out(self.scenario, in_week(self.held, index), broken)}"
-                )
+                lines.append(f"no roster was found that keeps every absence: {in_words(broken)}")
+                lines.append(way_out(self.scenario, in_week(self.held, index), broken))
             if over:
-                yield (
-                    f"{week_name(week.history.week)}: no plan was found that keeps every limit:"
-                    f" {limits_in_words(over, of_week)}"
-                )
-                yield f"{week_name(week.history.week)}: {limits_way_out(week, over, of_week)}"
+                above = limits_in_words(over, of_week)
+                lines.append(f"no roster was found that keeps every limit: {above}")
+                lines.append(limits_way_out(week, over, of_week))
+            name = "" if self.files.is_alone else f"{week_name(week.history.week)}: "
+            yield from (f"{name}{line}" for line in lines)
+
+    def roster(self, cells: Sequence[Cell], index: int) -> Solution:
+        """The roster of a week of these assignments, by its index from the first week."""
+        return Solution(self.numbers[index], self.scenario.name, in_week(cells, index))
+
+    def has(self, roster: Solution, index: int) -> bool:
+        """Whether a roster is of this ward and of the week with this index."""
+        return (roster.week, roster.scenario) == (self.numbers[index], self.scenario.name)
 
     def texts(self, cells: Sequence[Cell]) -> Dict[str, str]:
         """The weeks' rosters, of assignments whose days count from the first week, and the history
@@ -228,10 +246,10 @@ class PlannedWeeks:
         history = self.history
         found = {}
         for index, number in enumerate(self.numbers):
-            rows = in_week(cells, index)
-            found[roster_name(number)] = solution_text(Solution(number, self.scenario.name, rows))
+            roster = self.roster(cells, index)
+            found[roster_name(number)] = solution_text(roster)
             if number + 1 < self.scenario.weeks:
-                history = next_history(self.scenario, history, rows)
+                history = next_history(self.scenario, history, roster.cells)
                 found[history_name(number + 1)] = history_text(history)
         return found
 

@@ -1,20 +1,20 @@
 """A referee of claims about a week: it looks for a roster that refutes them, and for a bound that
 `inrc2pb-bound` proves."""
 
-import tempfile
 from dataclasses import replace
 from pathlib import Path
-from typing import Optional, Sequence
+from typing import Sequence
 
 from ..programs.clock import Clock
 from ..programs.program import NO_ROSTER, WeekFiles, run_program
 from ..programs.progress import Progress
 from ..week.faults import ProgramFault
-from ..week.records import Cell, Week
-from .best_roster import BestRoster
-from .bounds import EXISTS_NONE, PROOF, PROVER, Bound, find_prover, week_options
+from .best_plan import BestPlan
+from .bounds import EXISTS_NONE, PROOF, PROVER, Bound, find_prover
 from .claims import Known
-from .week_search import WeekSearch
+from .plan_search import PlanSearch
+from .planned_weeks import PeriodFiles, PlannedWeeks
+from .roster_file import RosterFile
 
 # The most seconds of a referee's search, and the name of a roster that it finds.
 SECONDS = 60.0
@@ -27,25 +27,18 @@ class Referee:
     are given are no part of a model, so they do not count here."""
 
     def __init__(
-        self,
-        files: WeekFiles,
-        week: Week,
-        held: Sequence[Cell],
-        target: Path,
-        progress: Progress,
-        inputs: Sequence[Path] = (),
+        self, files: WeekFiles, target: Path, progress: Progress, inputs: Sequence[Path] = ()
     ) -> None:
-        self._files = replace(files, given=None)
-        self._held = held
+        self._weeks = PlannedWeeks(PeriodFiles.of_week(replace(files, given=None)))
         self._progress = progress
-        self._week = replace(
-            week, data=replace(week.data, absences=frozenset(), limits=frozenset())
-        )
-        self._search: Optional[WeekSearch] = None
+        self._search: PlanSearch | None = None
         self._finder = ""
         self._none_exists = False
-        self.best = BestRoster(self._files, self._week, target, self._found, progress.warn, inputs)
-        self.bound: Optional[Bound] = None
+        place = RosterFile(self._weeks, target, inputs)
+        self.best = BestPlan(self._weeks, place, self._found, progress.warn)
+        self.bound: Bound | None = None
+        # A line for a fix file that seems to be of another week.
+        self.hints = self._weeks.hints
 
     def _found(self, penalty: int, finder: str) -> None:
         self._finder = FOUND if self._search else finder
@@ -54,30 +47,20 @@ class Referee:
     def tell(self, roster: Path, name: str) -> None:
         """Tells of a roster of the week, and how to name it. Raises ProgramFault if it breaks a
         hard rule."""
-        self.best.start(roster, self._held, name)
+        self.best.start(roster, name)
 
-    def search(self, clock: Clock, seed: int = 1, proof: Optional[Path] = None) -> None:
+    def search(self, clock: Clock, seed: int = 1, proof: Path | None = None) -> None:
         """Looks for the best roster and for a bound until the clock ends. `proof` is the file for
         the certificate."""
-        self._search = WeekSearch(
-            self._files,
-            self._week,
-            self._held,
-            best=self.best,
-            clock=clock,
-            progress=self._progress,
-            seed=seed,
-        )
+        search = PlanSearch(self._weeks, self.best, clock, self._progress, proof, seed)
+        self._search = search
         try:
-            with tempfile.TemporaryDirectory(prefix="inrc2pb-referee-") as folder:
-                self._search.run(Path(folder), self.best.cells or None, proof)
+            search.run(self.best.cells or None)
         except ProgramFault as fault:
             if fault.status != NO_ROSTER:
                 raise
-            self._none_exists = self._search.none_by == PROVER
-        finally:
-            self._progress.finish()
-        self.bound = self._search.bound
+            self._none_exists = search.none_by == PROVER
+        self.bound = search.bound
 
     def read(self, proof: Path) -> None:
         """Takes the bound of a certificate."""
@@ -87,7 +70,7 @@ class Referee:
                 NO_ROSTER,
                 f"there is no {PROVER} beside inrc2pb: a certificate proves nothing without it",
             )
-        words = [*week_options(self._files), PROOF, str(proof)]
+        words = [*self._weeks.options(), PROOF, str(proof)]
         self.bound = Bound(int(run_program(*words, program=prover).split()[2]), PROVER)
         self._none_exists = run_program(*words, "--minimums", program=prover).startswith(
             EXISTS_NONE
@@ -102,4 +85,4 @@ class Referee:
     def known(self) -> Known:
         """What is known now. Only a bound that was proved counts."""
         proved = self.bound.points if self.bound and self.bound.by == PROVER else None
-        return Known(self.best.penalty, self._finder, proved, self._none_exists)
+        return Known(self.best.cost, self._finder, proved, self._none_exists)

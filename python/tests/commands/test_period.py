@@ -141,10 +141,8 @@ class Together(PeriodTest):
         self.assertEqual((status, printed), (5, ""))
         self.assertRegex(
             said.splitlines()[-1],
-            (
-                "^inrc2pb-solve: no rosters keep the hard rules of these weeks together, by plain"
-                " Python: "
-            ),
+            "^inrc2pb-solve: no plan of these weeks together keeps the hard rules and has the rows"
+            rf" of {held} \(({PROVER}|{PLAIN})\): plan the weeks one by one$",
         )
 
     def test_absences(self):

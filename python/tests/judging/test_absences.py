@@ -7,7 +7,6 @@ from ward import (
     ENOUGH,
     HAS_CBC,
     HAS_CLASP,
-    HISTORY,
     ROSTER,
     SCENARIO,
     WEEK,
@@ -30,8 +29,11 @@ from inrc2pb.judging.absences import (
     with_requests,
     working_while_away,
 )
-from inrc2pb.search.best_roster import BestRoster
+from inrc2pb.search.best_plan import BestPlan
+from inrc2pb.search.planned_weeks import PeriodFiles, PlannedWeeks
+from inrc2pb.search.roster_file import RosterFile
 from inrc2pb.programs.program import penalty_of
+from inrc2pb.week.facts import Choice, Claim, facts_text
 from inrc2pb.week.records import Absence, Cell, Request
 
 WARD = files.read_scenario(SCENARIO)
@@ -98,8 +100,9 @@ class Writing(unittest.TestCase):
 class Kept(HelperTest):
     def test_a_search_prefers_a_roster_that_keeps_absences(self):
         away = Absence("Chen", 6, None)
-        week = files.read_files(SCENARIO, HISTORY, WEEK)
-        week = replace(week, data=replace(DATA, absences=frozenset({away})))
+        given = self.folder / "given.txt"
+        given.write_text(facts_text("ward", [Claim(Choice(1, "Chen", 6, None))]))
+        weeks = PlannedWeeks(PeriodFiles.of_week(replace(WEEK_FILES, given=given)))
         costly, cheap = (
             files.read_solution(path).cells for path in (self.swapped("Chen", "Grace"), ROSTER)
         )
@@ -108,15 +111,11 @@ class Kept(HelperTest):
             penalty_of(WEEK_FILES, ROSTER), penalty_of(WEEK_FILES, self.folder / "start.txt")
         )
         for offers in ((costly, cheap), (cheap, costly)):
-            best = BestRoster(
-                WEEK_FILES, week, self.folder / "best.txt", lambda penalty, finder: None
-            )
+            best = BestPlan(weeks, RosterFile(weeks, self.folder / "best.txt", ()))
             for offer in offers:
                 best.offer(offer, "test")
-            self.assertEqual(
-                (set(files.read_solution(self.folder / "best.txt").cells), best.breaks()),
-                (set(costly), []),
-            )
+            kept = files.read_solution(self.folder / "best.txt").cells
+            self.assertEqual((set(kept), best.keeps_all), (set(costly), True))
 
     @unittest.skipUnless(HAS_CBC, "needs cbc")
     def test_rows_keep_absences_unless_no_roster_can(self):

@@ -20,7 +20,7 @@ from inrc2pb.plans.planned import Planned
 from inrc2pb.plans.searching import Asked
 from inrc2pb.plans.absence import part_lines
 from inrc2pb.plans.planned import bound_text
-from inrc2pb.plans.searching import known_bound
+from inrc2pb.plans.searching import KnownBound
 from inrc2pb.plans.sentences import (
     beside_lines,
     call_lines,
@@ -766,7 +766,6 @@ class Training(KeptTest):
         )
 
     def test_the_bound_in_words(self):
-        search = mock.Mock(penalty=1170)
         kept = "plan that keeps all absences and limits"
         ends = "More seconds may help."
         least = f"This plan costs 1170 points. At least 1080 cannot be avoided by a {kept}"
@@ -790,19 +789,13 @@ class Training(KeptTest):
             ),
             (1080, PROVER, 1170, f"{proved} No {beside}, costs less (not proved)."),
         ):
-            search.bound = Bound(points, by, "absences and limits")
-            search.bound_beside = above
-            self.assertEqual(bound_text(known_bound(search)), says)
-        search.bound = Bound(1170, PROVER)
-        search.bound_beside = None
+            bound = Bound(points, by, "absences and limits")
+            self.assertEqual(bound_text(KnownBound(1170, bound, above)), says)
         self.assertEqual(
-            bound_text(known_bound(search)),
+            bound_text(KnownBound(1170, Bound(1170, PROVER))),
             "This plan costs 1170 points, and no plan costs less (proved by inrc2pb-bound).",
         )
-        search.bound = None
-        self.assertEqual(
-            bound_text(known_bound(search)), "how much less another plan can cost is not known"
-        )
+        self.assertEqual(bound_text(None), "how much less another plan can cost is not known")
 
     def test_what_no_plan_can_keep_is_told(self):
         # Only Dilek works nights, one is needed on Monday, and she has training on Tuesday.

@@ -18,8 +18,8 @@ from inrc2pb.rows.certificate import Certificate, Leaf, Split
 from inrc2pb.rows.plan import FREE, ONLY_ABSENCES, STRICT, Plan
 from inrc2pb.rows.pricing import Crews, Pricing, in_steps
 from inrc2pb.search import bounds
-from inrc2pb.search.bounds import PLAIN, PROVER, Bound, Bounds, week_options
-from inrc2pb.search.period_search import BEYOND
+from inrc2pb.search.bounds import PLAIN, PROVER, Bound, Bounds
+from inrc2pb.search.plan_search import BEYOND
 from inrc2pb.search.planned_weeks import PeriodFiles, PlannedWeeks
 from inrc2pb.week.facts import Charged, Choice, Claim, Even, facts_text
 from inrc2pb.week.records import Absence, KeptLimit
@@ -64,13 +64,11 @@ class FakeProver(HelperTest):
 
 class Options(HelperTest):
     def test_weeks_and_their_fix_files_are_counted_from_one(self):
-        self.assertEqual(week_options(WEEK_FILES), list(map(str, OPTIONS[:6])))
-        self.assertEqual(
-            week_options(replace(WEEK_FILES, fix=Path("f"), early=True))[6:],
-            ["--fix", "1=f", "--early"],
-        )
         fix = self.folder / "fix.txt"
         fix.write_text("SOLUTION\n1 ward\n\nASSIGNMENTS = 0\n")
+        held = replace(WEEK_FILES, fix=fix, early=True)
+        week = PlannedWeeks(PeriodFiles.of_week(held)).options()
+        self.assertEqual(week, [*map(str, OPTIONS[:6]), "--fix", f"1={fix}", "--early"])
         weeks = PlannedWeeks(PeriodFiles(SCENARIO, HISTORY, [WEEK, SECOND], {1: fix}, early=True))
         self.assertEqual(weeks.options(), [*map(str, OPTIONS), "--fix", f"2={fix}", "--early"])
 
@@ -119,7 +117,7 @@ class Proofs(FakeProver):
         with mock.patch.object(
             bounds, "find_prover", lambda: None if how is None else self.prover(how)
         ):
-            return Bounds(week_options(WEEK_FILES), "ward", self.target, self.warnings.append)
+            return Bounds(list(map(str, OPTIONS[:6])), "ward", self.target, self.warnings.append)
 
     def test_a_bound_is_that_of_the_program(self):
         run = self.certified(self.free)
@@ -209,7 +207,7 @@ class Proofs(FakeProver):
         for answer, by in (("no roster exists", PROVER), ("a roster may exist", None)):
             self.script(PROVER, f"echo {answer}\n")
             with mock.patch.object(bounds, "find_prover", lambda: self.folder / PROVER):
-                found = Bounds(week_options(WEEK_FILES), "ward", None, self.warnings.append)
+                found = Bounds(list(map(str, OPTIONS[:6])), "ward", None, self.warnings.append)
             self.assertEqual(found.no_roster(self.free, certificate, 60.0), by)
         self.assertEqual(self.bounds(None).no_roster(self.free, certificate, 60.0), PLAIN)
 

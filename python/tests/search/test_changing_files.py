@@ -507,18 +507,17 @@ class Folders(HelperTest):
         month = ROOT / "examples" / "month"
         period = PeriodFiles(month / "ward.txt", month / "history-0.txt", [month / "week-0.txt"])
         home = self.folder / "plan"
-        warnings = []
-        folder = PlanFolder(PlannedWeeks(period), home, warnings.append, period.all())
-        for again in (lambda: folder.keep([]), lambda: folder.keep([]), folder.written):
+        folder = PlanFolder(PlannedWeeks(period), home, period.all())
+        for again in (lambda: folder.keep([]), lambda: folder.keep([]), folder.restored):
             shutil.rmtree(home, ignore_errors=True)
-            again()
+            said = again()
             self.assertTrue((home / "roster-0.txt").is_file())
-        self.assertIn("the folder has the plan of the search again", warnings[-1])
+        self.assertIn("the folder has the plan of the search again", said)
 
     def test_days_of_a_plan_that_others_write_count_from_its_first_week(self):
         ward = ROOT / "examples" / "ward"
         period = PeriodFiles(ward / "ward.txt", ward / "history-1.txt", [ward / "week-1.txt"])
-        folder = PlanFolder(PlannedWeeks(period), self.folder, self.fail, period.all())
+        folder = PlanFolder(PlannedWeeks(period), self.folder, period.all())
         self.solution("Chen Mon Day Nurse", "Grace Sun Late Nurse", week=1, name="roster-1.txt")
         self.assertEqual([cell.day for cell in folder.others()], [0, 6])
 

@@ -25,7 +25,8 @@ from ward import (
 )
 from ward import HelperTest, begin_command, program, run, start_command
 
-from inrc2pb.search import bounds, improving
+from inrc2pb.search import bounds
+from inrc2pb.search.best_plan import Rank
 from inrc2pb.search.bounds import PLAIN, PROVER, Bound
 from inrc2pb.search.improving import SearchResult, improve, search
 from inrc2pb.rows.pricing import Pricing
@@ -73,7 +74,9 @@ class Searches(HelperTest):
         start = self.swapped("Amara", "Bruno")
         self.assertEqual(program.penalty_of(WEEK_FILES, start), 110)
         outcome = improve(WEEK_FILES, self.target, start=start, seconds=ENOUGH)
-        self.assertEqual((outcome.report.penalty, outcome.bound, outcome.proved), (20, 20, True))
+        self.assertEqual(
+            (outcome.report.penalty, outcome.bound.points, outcome.proved), (20, 20, True)
+        )
         self.assertEqual(program.penalty_of(WEEK_FILES, self.target), 20)
 
     def test_a_search_that_is_stopped_has_the_best_roster(self):
@@ -161,30 +164,32 @@ class WrongNumbers(HelperTest):
 
 
 class Lines(unittest.TestCase):
+    def result(self, rank, bound):
+        """The result of a search for a roster of 15 points."""
+        return SearchResult(SimpleNamespace(penalty=15), Rank(*rank, 15), bound)
+
     def test_a_proof_and_a_broken_absence(self):
-        for penalty, bound, broken, lines in (
-            (15, Bound(15, PROVER), [], ["", "no roster costs less, proved"]), (15, Bound(15, PLAIN), [], ["", "no roster costs less"]),
-            (15, Bound(15, PROVER), ["a row"], ["", "no roster costs less, but this one breaks an absence"]),
-            (15, Bound(15, PROVER, "limits"), [], [" with all limits", "no roster that keeps all limits costs less, proved"]),
-        ):  # fmt: skip
-            found = SimpleNamespace(bound=bound, verdict="")
-            best = SimpleNamespace(breaks=lambda broken=broken: broken, exceeds=list, proved=True)
-            result = SearchResult(SimpleNamespace(penalty=penalty), found, best, False, None)
-            self.assertEqual(result.lines(), [f"lower bound 15{lines[0]} ({bound.by})", lines[1]])
+        for bound, rank, lines in (
+            (Bound(15, PROVER), (0, 0), ["", "no roster costs less, proved"]),
+            (Bound(15, PLAIN), (0, 0), ["", "no roster costs less"]),
+            (
+                Bound(15, PROVER),
+                (1, 0),
+                ["", "no roster costs less, but this one breaks an absence"],
+            ),
+            (Bound(15, PROVER), (0, 1), ["", "no roster costs less, but this one exceeds a limit"]),
+            (
+                Bound(15, PROVER, "limits"),
+                (0, 0),
+                [" with all limits", "no roster that keeps all limits costs less, proved"],
+            ),
+        ):
+            said = self.result(rank, bound).lines()
+            self.assertEqual(said, [f"lower bound 15{lines[0]} ({bound.by})", lines[1]])
 
     def test_a_bound_below_the_penalty_is_no_proof(self):
         for bound, proved in ((None, False), (Bound(10, PLAIN), False), (Bound(15, PLAIN), True)):
-            best = SimpleNamespace(
-                penalty=15,
-                report=lambda: SimpleNamespace(penalty=15),
-                breaks=list,
-                exceeds=list,
-                proved=False,
-            )
-            found = improving._result(
-                best, SimpleNamespace(bound=bound, verdict=""), False, None, 1.0, []
-            )
-            self.assertEqual((found.proved, best.proved), (proved, proved))
+            self.assertEqual(self.result((0, 0), bound).proved, proved)
 
 
 class BadInput(HelperTest):

@@ -363,7 +363,7 @@ class Commands(HelperTest):
         self.assertEqual(status, 0, said)
         self.assertIn(
             (
-                "week 1: no plan was found that keeps every limit: Ewa has 6 days of work in a row,"
+                "week 1: no roster was found that keeps every limit: Ewa has 6 days of work in a row,"
                 " Mon to Sat, of at most 3\n"
             ),
             said,
