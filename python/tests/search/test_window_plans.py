@@ -1,12 +1,13 @@
 """Tests of plans of many weeks, which get better window by window."""
 
+import itertools
 import random
 import tempfile
 import unittest
 from dataclasses import replace
 from pathlib import Path
 
-from ward import ROOT
+from ward import ENOUGH, ROOT
 
 from inrc2pb.judging.days_away import DaysAway
 from inrc2pb.programs.clock import Clock
@@ -126,9 +127,8 @@ class LongPlans(unittest.TestCase):
         with tempfile.TemporaryDirectory() as folder:
             solver = LinearSolver(Processes(), Path(folder), self.fail)
             try:
-                costs = [
-                    cost(plan, better) for better in better_plans(plan, cells, solver, Clock(8), 1)
-                ]
+                plans = better_plans(plan, cells, solver, Clock(ENOUGH), 1)
+                costs = [cost(plan, better) for better in itertools.islice(plans, 2)]
             finally:
                 solver.close()
         self.assertGreater(len(costs), 1)
