@@ -19,7 +19,8 @@ from ..week.faults import FileFault
 from ..week.records import DAYS, Absence, Cell, KeptLimit, Scenario, Week, WeekData
 from ..week.slots import PathLike
 from ..week.words import joined, plural, readable
-from .absences import absences_of, is_broken_by
+from .absences import absences_of
+from .obstacles import obstacles
 from .rules import SATURDAY, Charge, charges
 
 # The kinds of charges, by their rules and their words.
@@ -99,15 +100,12 @@ def _with_shifts_left(week: Week, too_many: Sequence[Cell], cells: Sequence[Cell
     away = absences_of(week.data)
     works = {cell.nurse_day for cell in cells}
     over = {cell.nurse for cell in too_many}
-    for nurse, owner in week.scenario.nurses.items():
+    for nurse in week.scenario.nurses:
         worked = week.history.nurses[nurse].assignments + sum(cell.nurse == nurse for cell in cells)
         left = week.scenario.contract_of(nurse).assignments.maximum - worked
-        free = [
-            cell._replace(nurse=nurse)
-            for cell in too_many
-            if cell.skill in owner.skills and (nurse, cell.day) not in works
-        ]
-        if nurse not in over and left > 0 and not all(is_broken_by(away, cell) for cell in free):
+        free = (cell._replace(nurse=nurse) for cell in too_many if (nurse, cell.day) not in works)
+        may_work = any(not obstacles(week.scenario, away, cell) for cell in free)
+        if nurse not in over and left > 0 and may_work:
             yield f"{readable(nurse)} ({left})"
 
 

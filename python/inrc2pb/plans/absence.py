@@ -41,10 +41,6 @@ class Away(Outcome):
             [*said, not_written_text(write)] if self.status is Status.NOT_KEPT and write else said
         )
 
-    def question(self) -> list[str]:
-        """The same."""
-        return self.lines()
-
     @property
     def needs_search(self) -> bool:
         """Each absence does."""

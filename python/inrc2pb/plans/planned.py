@@ -28,7 +28,7 @@ from .sentences import (
     wish_lines,
 )
 from .verb import Outcome
-from .ward import WardPlan, for_leavers
+from .ward import BeforeAndAfter, WardPlan, for_leavers
 
 UNKNOWN_BOUND = "how much less another plan can cost is not known"
 
@@ -66,7 +66,7 @@ class Planned(Outcome):
     is_look: bool = False
     ended_by: int | None = None
     # The plan of the next period, before and after this one; None if there is none.
-    following: tuple[WardPlan | None, WardPlan | None] = (None, None)
+    following: BeforeAndAfter = (None, None)
     # What the next period would have to give up, so that nothing else has to be.
     gives_up: tuple[str, ...] = ()
     # What nurses had in the year before it.

@@ -27,7 +27,7 @@ from .periods import (
 from .fits import check_sheet
 from .plan_files import read_state
 from .state import State, renamed
-from .ward import WardPlan, continued, first_plan
+from .ward import BeforeAndAfter, WardPlan, continued, first_plan
 from .ward_folder import WardFolder
 
 # The verb that hangs a plan up.
@@ -122,9 +122,7 @@ class PlanReader:
             past = renamed(past, ward.names_since(state_of(before).was))
         return continued(ward.with_border(border), state, past)
 
-    def before_and_after(
-        self, corrected: State, number: int | None = None
-    ) -> tuple[WardPlan | None, WardPlan | None]:
+    def before_and_after(self, corrected: State, number: int | None = None) -> BeforeAndAfter:
         """The plan that holds of a period, as it is, and if an older period has this state; None if
         there is none yet."""
         try:
@@ -133,7 +131,7 @@ class PlanReader:
         except Misuse:
             return None, None
 
-    def following(self, new: WardPlan) -> tuple[WardPlan | None, WardPlan | None]:
+    def following(self, new: WardPlan) -> BeforeAndAfter:
         """The plan of the next period, as it is, and after this plan; None if there is none."""
         numbers = [period.number for period in self.periods()]
         number = new.state.period + 1

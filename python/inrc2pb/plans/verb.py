@@ -86,7 +86,7 @@ class Outcome:
 
     def question(self) -> List[str]:
         """What a question says of it before it is done; why it cannot be, if that is known."""
-        return []
+        return self.lines()
 
     @property
     def needs_search(self) -> bool:

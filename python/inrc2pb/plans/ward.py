@@ -257,18 +257,20 @@ def for_leavers(plan: WardPlan, first: int) -> WardPlan:
     return replace(plan, limits=limits_for_leavers(plan.ward, plan.state, plan.limits, first))
 
 
-def first_plan(ward: Ward, past: History | None = None) -> WardPlan:
-    """The plan of a spreadsheet before anything is planned, after this history, if there is one."""
-    return plan_of(ward, State(ward.days, _start(ward, past)))
+# A plan before and after something; None if there is none.
+BeforeAndAfter = tuple[WardPlan | None, WardPlan | None]
 
 
-def _start(ward: Ward, past: History | None) -> History:
+def first_plan(ward: Ward) -> WardPlan:
+    """The plan of a spreadsheet before anything is planned."""
+    return plan_of(ward, State(ward.days, ward.past))
+
+
+def _start(ward: Ward, past: History) -> History:
     """The history before the first week. Nurses whom an older one does not have begin as the sheet
     says."""
-    known = past.nurses if past else {}
-    return replace(
-        ward.past, nurses={nurse: known.get(nurse, row) for nurse, row in ward.past.nurses.items()}
-    )
+    nurses = {nurse: past.nurses.get(nurse, row) for nurse, row in ward.past.nurses.items()}
+    return replace(ward.past, nurses=nurses)
 
 
 def continued(ward: Ward, state: State, past: History | None = None) -> WardPlan:

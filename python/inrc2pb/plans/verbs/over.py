@@ -14,7 +14,7 @@ from ..facts import newly_exceeded
 from ..sentences import anew_lines, exceeded_lines
 from ..store import PlanStore
 from ..verb import Event, Form, Outcome, Status, Verb, saved
-from ..ward import WardPlan
+from ..ward import BeforeAndAfter, WardPlan
 from ..words import PERIOD_IS_OVER
 
 
@@ -27,7 +27,7 @@ class WeekOver(Outcome):
     # The plan that goes on; None after the last week of a period.
     next: WardPlan | None
     # The plan of the next period, before and after this; None if there is none.
-    following: tuple[WardPlan | None, WardPlan | None] = (None, None)
+    following: BeforeAndAfter = (None, None)
     # The date on which this is asked for, if the week has not ended then.
     early: datetime.date | None = None
 
@@ -104,7 +104,7 @@ class Corrected(Outcome):
     before: WardPlan | None
     now: WardPlan | None
     # The plan of the next period, if that is another one.
-    following: tuple[WardPlan | None, WardPlan | None] = (None, None)
+    following: BeforeAndAfter = (None, None)
 
     def question(self) -> list[str]:
         """What changes."""

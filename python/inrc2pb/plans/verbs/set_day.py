@@ -19,7 +19,7 @@ from ..state import SetDay
 from ..store import PlanStore, penalties
 from ..swaps import MOST_POINTS, Instead, Offer, Swaps
 from ..verb import Event, Form, Outcome, Status, Verb, cell_of, saved, wording_of
-from ..ward import PROMISED, WardPlan
+from ..ward import PROMISED, BeforeAndAfter, WardPlan
 
 # How a shift is left open that only this nurse fills.
 OPEN_TEXT = "with --open the shift that she leaves stays open"
@@ -47,7 +47,7 @@ class DaySet(Outcome):
     # Whether a search has found no plan with it.
     has_searched: bool = False
     # The plan of the next period, before and after this; None if there is none.
-    following: tuple[WardPlan | None, WardPlan | None] = (None, None)
+    following: BeforeAndAfter = (None, None)
 
     @property
     def place(self) -> NurseDay:
@@ -82,10 +82,6 @@ class DaySet(Outcome):
             *([f"this day alone adds {self.cost:+} points"] if is_look and not self.faults else []),
             f"{text}: swaps and later plans keep it, until it is taken back",
         ]
-
-    def question(self) -> list[str]:
-        """The same."""
-        return self.lines()
 
     def lines(self, write: str = "") -> list[str]:
         """Why a nurse's day cannot be set, or what that changes and costs, and whether it is

@@ -15,7 +15,7 @@ from ..state import State, Swap
 from ..store import PlanStore, penalties
 from ..swaps import Swaps, swapped
 from ..verb import Event, Form, Outcome, Status, Verb, saved, wording_of
-from ..ward import WardPlan
+from ..ward import BeforeAndAfter, WardPlan
 
 
 @dataclass(frozen=True)
@@ -31,11 +31,7 @@ class Swapped(Outcome):
     # Who else could take the first shift.
     offers: Offers | None = None
     # The plan of the next period, before and after this; None if there is none.
-    following: tuple[WardPlan | None, WardPlan | None] = (None, None)
-
-    def question(self) -> list[str]:
-        """The same."""
-        return self.lines()
+    following: BeforeAndAfter = (None, None)
 
     def lines(self, write: str = "") -> list[str]:
         """Why a swap cannot be, or what it changes and costs, and whether it is written; who

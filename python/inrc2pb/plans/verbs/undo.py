@@ -36,10 +36,6 @@ class Undone(Outcome):
     plan: WardPlan | None = None
     fault: FileFault | Misuse | OSError | None = None
 
-    def question(self) -> list[str]:
-        """The same."""
-        return self.lines()
-
     def lines(self, write: str = "") -> list[str]:
         """Which verb is taken back, and which plan holds again."""
         made = self.undone.text()
