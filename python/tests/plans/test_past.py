@@ -130,7 +130,7 @@ class Corrected(PastTest):
 
     def test_the_table_of_what_was_worked(self):
         self.does("page")
-        self.assertFalse((self.ward / "tables").exists())
+        self.assertFalse((self.ward / "tables" / "worked.csv").exists())
         self.does(
             "over", "Finn", "Fri", "off,", "Grace", "Wed", "ill,", "Amara", "Sun", "Day/Nurse"
         )
