@@ -144,7 +144,10 @@ class BrowserTest(FolderTest):
         self.assertEqual(len(buttons), 1)
         self.clicks += 1
         if self.by_keyboard:
-            # The question has the focus already.
+            # The question has the focus, so its Yes is the next stop.
+            stops = self.stops
+            self.reaches(buttons[0])
+            self.assertEqual(self.stops, stops + 1)
             self.browser.switch_to.active_element.send_keys(Keys.ENTER)
         else:
             buttons[0].click()
