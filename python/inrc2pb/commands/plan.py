@@ -89,7 +89,7 @@ def _options() -> Parser:
         ),
     )
     options.add_flag(
-        "--do", "with swap or set: write it; with others: also a plan that exceeds a maximum with !"
+        "--do", "with swap, set or page: write it; with others: also a plan above a maximum with !"
     )
     options.add_flag(
         "--open", "with set, plan and days away: leave those shifts open that nobody else can take"

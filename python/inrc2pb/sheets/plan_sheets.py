@@ -16,7 +16,7 @@ from ..week.records import (
 )
 from ..week.slots import MAX_NUMBER
 from ..week.words import readable
-from .plan_days import NO_WEEK, Days, week_of_row
+from .plan_days import NO_WEEK, Days, date_of_row, week_of_row
 from .sheet_cells import SheetCell, about
 from .sheet_files import Book
 from .sheet_rows import SheetRow, Table
@@ -126,8 +126,10 @@ def read_needs(
     table: Table, ward: WardTables, days: Days | None, weeks: list[WeekSheet], faults: Gathering
 ) -> None:
     """Rows without a week are for all weeks, but for the days that a row of one week has. If the
-    days are not known, only what the rows have beside their week is looked at."""
+    days are not known, only what the rows have beside their week is looked at. A row with a date
+    and a number on its day only makes that day a bank holiday, also with the usual number."""
     given: dict[_Asked, list[tuple[SheetCell, Requirement]]] = {}
+    dated: set[tuple[int, int]] = set()
     for row in table.rows:
         cells = [row.of(name.casefold()) for name in DAYS]
         numbers = [(cell, faults.tried(lambda: needed(cell), Requirement(0, 0))) for cell in cells]
@@ -149,6 +151,10 @@ def read_needs(
                     " its week"
                 )
         given.setdefault(asked, numbers)
+        date = date_of_row(row.of("week"), days) if days and week not in (None, NO_WEEK) else None
+        filled = [day for day, cell in enumerate(cells) if cell.text]
+        if date and week is not None and filled == [date.weekday()]:
+            dated.add((week, date.weekday()))
     for shift, skill in dict.fromkeys((asked.shift, asked.skill) for asked in given):
         of_all = given.get(_Asked(None, shift, skill))
         for number, sheet in enumerate(weeks):
@@ -156,7 +162,7 @@ def read_needs(
             for day, (cell, requirement) in enumerate(of_week or ()):
                 base = of_all[day][1] if of_all and not cell.text else requirement
                 sheet.requirements[Place(day, shift, skill)] = base
-                if of_all and base != of_all[day][1]:
+                if of_all and base != of_all[day][1] or (number, day) in dated:
                     sheet.holidays.add(day)
 
 

@@ -236,6 +236,12 @@ def test_the_week_of_a_bank_holiday_may_be_said_in_many_ways(tmp_path, form, wee
 
 
 @pytest.mark.parametrize("form", FORMATS)
+@pytest.mark.parametrize("week, days", ((CHRISTMAS, {25}), ("25.12.", {25}), ("CW 52", set())))
+def test_a_date_makes_a_bank_holiday_also_with_the_usual_number(tmp_path, form, week, days):
+    assert read(tmp_path, form, books(holiday(week, friday="1+1"))).holidays == days
+
+
+@pytest.mark.parametrize("form", FORMATS)
 def test_rest_is_judged_by_the_hours_that_the_sheet_has(tmp_path, form):
     sheets = example(shifts_D3="", shifts_F1="rest", shifts_F3=8)
     assert not [line for line in read(tmp_path, form, books(sheets)).warnings if "rest" in line]
