@@ -38,6 +38,8 @@ FIRM_SHARE = 0.75
 EVENING_SHARE = 0.1
 MOST_EVENING = 8.0
 STOPPED_EVENING = 0.3
+# The seconds in which needless changes are taken back, if the user has stopped the search.
+STOPPED_CHANGES = 0.9
 # What a search says before it begins anew.
 WITHOUT_AGREED = (
     "no plan was found that keeps all agreed swaps: a search for one that may break them"
@@ -81,9 +83,11 @@ def searched(
         except ProgramFault as fault:
             return _no_plan(store, old, asked, fault, cause)
         during_search = len(signals.caught)
+        is_stopped = found.stopped
+        clock = Clock(STOPPED_CHANGES)
 
         def ends() -> bool:
-            return len(signals.caught) > during_search
+            return len(signals.caught) > during_search or is_stopped and not clock.left()
 
         if asked.few_changes and old.is_planned:
             found = found._replace(plan=without_needless_changes(old, found.plan, ends))
@@ -106,7 +110,7 @@ def searched(
             plan=new,
             penalties=penalties(new),
             bound=found.bound,
-            is_stopped=found.stopped or ends(),
+            is_stopped=is_stopped or ends(),
             ended_by=next(iter(signals.caught), None),
             cause=cause,
             verb=verb,

@@ -30,8 +30,10 @@ from inrc2pb.plans.searching import Asked
 from inrc2pb.plans.searching import Found
 from inrc2pb.plans.sentences import beside_lines, evenness_lines
 from inrc2pb.plans.state import SetDay
-from inrc2pb.plans.store import penalties
+from inrc2pb.plans.store import Means, PlanStore, penalties
+from inrc2pb.plans.verb import Event
 from inrc2pb.plans.ward_folder import WardFolder
+from inrc2pb.programs.progress import Progress
 from inrc2pb.week.records import Cell
 
 # The steps with which the exchanges of these tests end.
@@ -304,16 +306,27 @@ class Exchanges(KeptTest):
 
     def test_who_stops_a_search_does_not_wait_for_a_slow_machine(self):
         plan = self.read()
+        store = PlanStore(WardFolder(self.ward), Means(Progress(None), lambda line: None))
 
-        def slow(even, first, steps, ends, before):
+        def slow(old, new, *words):
+            (ends,) = filter(callable, words)
             limit = time.monotonic() + ENOUGH
             while not ends() and time.monotonic() < limit:
                 time.sleep(0.01)
-            return even
+            return plan
 
         began = time.monotonic()
-        with mock.patch.object(planning, "more_even", slow):
-            planning._evened(Found(plan, stopped=True), Asked(0, False, 60.0))
+        with mock.patch.multiple(
+            planning,
+            _filling=lambda *words: Found(plan, stopped=True),
+            more_even=slow,
+            without_needless_changes=slow,
+        ):
+            for few_changes in (False, True):
+                asked = Asked(0, few_changes, 60.0)
+                self.assertTrue(
+                    planning.searched(store, Event("plan"), "plan", plan, asked).is_stopped
+                )
         self.assertLess(time.monotonic() - began, ENOUGH)
 
     @unittest.skipUnless(HAS_CBC, "cbc is not installed")
