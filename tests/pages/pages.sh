@@ -63,6 +63,8 @@ from inrc2pb.commands import ward
 print(*ward.new(pathlib.Path(sys.argv[1]), datetime.date(2026, 11, 28)), sep="\n")' "\$1" ;;
     *' --time '*) ;;
     *' plan '* | *' ill '*) set -- "\$@" --time 5 ;;
+    # The plan of five seconds may have a wide gap, which is asked about before it is hung up.
+    *' page '*) set -- "\$@" --do ;;
 esac
 exec '$room/work/python/inrc2pb-plan' "\$@"
 END
