@@ -8,11 +8,11 @@ from pathlib import Path
 from typing import Callable, Iterator, NamedTuple, Sequence
 
 from ..programs import clock
-from ..programs.program import WeekFiles, penalty_of
+from ..programs.program import BROKEN_RULE, WeekFiles, penalty_of
 from ..programs.progress import Progress, is_wide
 from ..shown.totals import Sums
 from ..week.dates import PlanDays, first_date
-from ..week.faults import FileFault, FileFaults, Misuse
+from ..week.faults import FileFault, FileFaults, Misuse, ProgramFault
 from ..week.files import history_text, write_solution
 from ..week.own_files import is_own_file
 from ..week.records import Solution
@@ -212,7 +212,13 @@ def wide_gap(plan: WardPlan) -> Gap | None:
     """The gap of a plan, if it is wide, and known."""
     if plan.state.least is None or not plan.is_planned:
         return None
-    gap = Gap(sum(penalties(plan).values()), plan.state.least)
+    try:
+        gap = Gap(sum(penalties(plan).values()), plan.state.least)
+    except ProgramFault as fault:
+        # A plan that the spreadsheet does not fit any more has no points.
+        if fault.status != BROKEN_RULE:
+            raise
+        return None
     return gap if is_wide(*gap) else None
 
 
