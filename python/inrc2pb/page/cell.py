@@ -1,7 +1,7 @@
 """What can be done with a nurse's day on the local page, with what it adds to the points. Nothing
 is written before the page has asked."""
 
-from typing import Iterator, List, Optional, Sequence, Tuple
+from typing import Iterator, Sequence
 from urllib.parse import urlencode
 
 from ..plans.offers import MOST_OFFERS, fault_text, nobody_text, offer_text, offers_of
@@ -38,7 +38,7 @@ class Actions:
         place: NurseDay,
         address: str,
         stamp: str,
-        agreed: Optional[Swap] = None,
+        agreed: Swap | None = None,
     ) -> None:
         self._plan = plan
         self._place = place
@@ -80,7 +80,7 @@ class Actions:
         )
 
     @property
-    def _kept_promise(self) -> Optional[SetDay]:
+    def _kept_promise(self) -> SetDay | None:
         """What was promised for the day, if the plan has it so."""
         return (
             self._promise
@@ -120,7 +120,7 @@ class Actions:
             self._address,
         )
 
-    def _others(self) -> Optional[Markup]:
+    def _others(self) -> Markup | None:
         """Who could take her shift, the cheapest first."""
         nurse, day = self._place
         if self._swaps.works(nurse, day) is None:
@@ -142,7 +142,7 @@ class Actions:
             buttons.append(self._button(offer_text(self._swaps, offer).strip(), **words))
         return _group("Someone else takes it", buttons)
 
-    def _shifts(self) -> Optional[Markup]:
+    def _shifts(self) -> Markup | None:
         """The shifts that she could have, a promised day off among them, and why she cannot have
         others."""
         if self._is_away:
@@ -181,7 +181,7 @@ class Actions:
         """The shift that she has now."""
         return cell_text(self._swaps.works(*self._place))
 
-    def _choices(self) -> Iterator[Tuple[str, Optional[Cell]]]:
+    def _choices(self) -> Iterator[tuple[str, Cell | None]]:
         """The words of the verb set, and the shifts that they are: off, and each shift type with
         those of her skills that it needs."""
         yield OFF, None
@@ -197,7 +197,7 @@ class Actions:
         """Whether she is away for a reason, and not only off."""
         return self._plan.away.get(self._place, ALWAYS_OFF) not in DAYS_OFF
 
-    def _away(self) -> Optional[Markup]:
+    def _away(self) -> Markup | None:
         """She is away, from this day to another one."""
         if self._is_away:
             return None
@@ -238,7 +238,7 @@ class Actions:
             ],
         )
 
-    def _back(self) -> Optional[Markup]:
+    def _back(self) -> Markup | None:
         """What was written for this day is taken back: an absence, a day that was set, or a
         swap."""
         buttons = list(self._taken_back())
@@ -288,5 +288,5 @@ class Actions:
 
 def _group(heading: str, inside: Sequence[Markup]) -> Markup:
     """Buttons with a heading."""
-    parts: List[Markup] = [element("h3", heading), *inside]
+    parts: list[Markup] = [element("h3", heading), *inside]
     return element("div", *parts)

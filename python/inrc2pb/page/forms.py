@@ -1,6 +1,6 @@
 """The forms of a local page, and the verbs that their fields are."""
 
-from typing import List, Optional, Sequence, Tuple
+from typing import Sequence
 
 from ..plans.planning import CHANGE_SECONDS, WEEK_SECONDS
 from ..plans.table import VERBS
@@ -33,6 +33,42 @@ _EMPTY = {
     "last": "this day only",
 }
 _LABELS = {"first": "day", "last": "last day", "other": "with", "free": "all shifts may change"}
+# The style of forms, buttons and links.
+STYLE = """
+form { margin: .5em 0 }
+label { display: inline-block; margin: .1em .3em }
+button, input, select { font: inherit; padding: .25em .5em }
+button { min-width: 11em }
+button:focus-visible, input:focus-visible, select:focus-visible, a:focus-visible { outline: 3px solid #05c; outline-offset: 1px }
+pre { background: #eee; padding: .6em; white-space: pre-wrap }
+pre.fault { background: #fdd }
+.links a { margin-right: 1em }
+td a { display: block; color: inherit; text-decoration: none; min-height: 1.4em }
+td a:hover { outline: 3px solid #05c }
+tbody th a { color: inherit }
+summary { font-weight: 600; padding: .3em 0 }
+.actions { display: grid; grid-template-columns: repeat(auto-fit, minmax(17em, 1fr)); gap: 0 1.5em }
+.actions h3 { font-size: 1em; margin: .6em 0 .2em }
+.actions form { margin: .15em 0 }
+.actions button { width: 100%; text-align: left }
+.actions .words button { width: auto; min-width: 0 }
+@media screen {
+body { max-width: none; margin: .6em 1em }
+h1 { display: inline-block; margin-right: 1em }
+h1 + .links { display: inline-block }
+.plan { overflow: auto; max-height: 84vh; margin-bottom: .4em }
+.plan:has(~ .panel .busy) { max-height: 46vh }
+.plan table { margin: 0 }
+.plan caption { position: absolute; clip-path: inset(50%) }
+.plan thead { position: sticky; top: 0; z-index: 2 }
+.panel { position: sticky; bottom: 0; max-height: 48vh; overflow: auto; background: #fff; border-top: 3px solid #05c; padding: .2em .6em; z-index: 3 }
+#cell, .panel h2 { scroll-margin-top: 100vh }
+.panel h2 { margin: .3em 0 }
+.gone { color: #555 }
+}
+@media print { .panel, #forms, .links { display: none } .plan { overflow: visible } }
+@media screen and (max-width: 40em) { button { width: 100% } label { display: block } select { max-width: 100% } }
+"""
 
 
 def writes(fields: Fields) -> str:
@@ -42,7 +78,7 @@ def writes(fields: Fields) -> str:
     return "" if only_reads else _BY_VERB[verb].writes
 
 
-def not_written(fields: Fields) -> List[str]:
+def not_written(fields: Fields) -> list[str]:
     """A line that names what was not written of a form that was refused; none if its verb only
     reads."""
     nurse, other = (readable(fields.get(name, "")) for name in ("nurse", "other"))
@@ -53,7 +89,7 @@ def not_written(fields: Fields) -> List[str]:
     )
 
 
-def event_of(fields: Fields, seconds: Optional[float] = None, period: str = "") -> Event:
+def event_of(fields: Fields, seconds: float | None = None, period: str = "") -> Event:
     """What a form asks for; a search has so many seconds, if the form does not say how many. A verb
     of a whole period is for the one that begins on the date `period`. Raises Misuse if no form of
     the page is so."""
@@ -86,7 +122,7 @@ def event_of(fields: Fields, seconds: Optional[float] = None, period: str = "") 
     )
 
 
-def _seconds(fields: Fields) -> Optional[float]:
+def _seconds(fields: Fields) -> float | None:
     text = fields.get("seconds", "")
     if not text:
         return None
@@ -105,11 +141,11 @@ def _reason(fields: Fields) -> str:
 
 def form_markup(
     form: Form,
-    plan: Optional[WardPlan],
+    plan: WardPlan | None,
     address: str,
     stamp: str,
     kept: Fields = {},
-    seconds: Optional[float] = None,
+    seconds: float | None = None,
 ) -> Markup:
     """A form of the page, with the stamp of the plan, these values in its fields, and this time of
     a search. Nothing is chosen beforehand. One with fields is folded, unless it was refused; one
@@ -135,7 +171,7 @@ def form_markup(
 
 
 def sure_markup(
-    fields: Fields, plan: Optional[WardPlan], address: str, seen: str, lines: Sequence[str] = ()
+    fields: Fields, plan: WardPlan | None, address: str, seen: str, lines: Sequence[str] = ()
 ) -> Markup:
     """The question before a verb writes, with these lines, for what the folder has. Without a plan,
     which the spreadsheet may not give now, it is undo."""
@@ -163,7 +199,7 @@ def sure_markup(
     return element("section", *parts, answers, tabindex="-1", autofocus="")
 
 
-def _question(form: Form, fields: Fields, plan: Optional[WardPlan]) -> str:
+def _question(form: Form, fields: Fields, plan: WardPlan | None) -> str:
     """What the page asks: the heading of the form, and its fields."""
     if plan and form.verb == "swap":
         first = _shown(plan, fields["first"])
@@ -216,7 +252,7 @@ def _field(name: str, plan: WardPlan, kept: str, seconds: float) -> Markup:
         return joined(
             element("label", label, element("input", name=name, value=kept or None, **kind)), " "
         )
-    choices: Sequence[Tuple[str, str]]
+    choices: Sequence[tuple[str, str]]
     if name == "shift":
         choices = [
             (OFF, "off, promised"),

@@ -5,7 +5,7 @@ import datetime
 import io
 import threading
 from pathlib import Path
-from typing import List, Mapping, NamedTuple, Optional
+from typing import Mapping, NamedTuple
 
 from ..plans.planned import Planned
 from ..plans.plan_files import known_record
@@ -69,10 +69,10 @@ class Said(NamedTuple):
     """What there is to say of the last event: its lines, its form, its outcome or fault if it has
     ended, and whether it still runs."""
 
-    lines: List[str]
+    lines: list[str]
     fields: Fields = {}
-    outcome: Optional[Outcome] = None
-    fault: Optional[Exception] = None
+    outcome: Outcome | None = None
+    fault: Exception | None = None
     runs: bool = False
     # What was asked for, and when.
     asked: str = ""
@@ -88,7 +88,7 @@ class Said(NamedTuple):
         )
 
     @property
-    def look(self) -> Optional[Planned]:
+    def look(self) -> Planned | None:
         """The plan that was found, if its user is to look at it before it is written."""
         return self.outcome if isinstance(self.outcome, Planned) and self.outcome.is_look else None
 
@@ -107,19 +107,19 @@ class Jobs:
     """The events of a folder. `stop` ends the one that runs, which keeps its best plan."""
 
     def __init__(
-        self, folder: WardFolder, signals: Interrupts, seconds: Optional[float] = None
+        self, folder: WardFolder, signals: Interrupts, seconds: float | None = None
     ) -> None:
         # The seconds of a search, if they are not the usual ones.
         self.folder = folder
         self.seconds = seconds
         self._signals = signals
         self._lock = threading.Lock()
-        self._thread: Optional[threading.Thread] = None
+        self._thread: threading.Thread | None = None
         self._spoken = io.StringIO()
         self._said = Said([])
         self._began = datetime.datetime.now().replace(second=0, microsecond=0)
 
-    def verbs(self, spoken: Optional[io.StringIO] = None) -> Verbs:
+    def verbs(self, spoken: io.StringIO | None = None) -> Verbs:
         """The verbs of the folder, which say to this text how far they are."""
         text = spoken or io.StringIO()
         return Verbs(
@@ -149,7 +149,7 @@ class Jobs:
         is_typed = record.time >= self._began and not _is_of_page(record)
         return f"{record.made}{', at a terminal' if is_typed else ''}"
 
-    def history(self) -> List[Done]:
+    def history(self) -> list[Done]:
         """What the last verbs have done, the last one first, when, and where each was asked for: at
         a terminal, or on the page, which says from which address."""
         undone = self.folder.undone()
@@ -184,7 +184,7 @@ class Jobs:
             return said._replace(lines=[str(Saved())], outcome=None, fault=Saved())
         return Said([], said.fields)
 
-    def begin(self, event: Event, fields: Fields, stamp: Optional[str]) -> None:
+    def begin(self, event: Event, fields: Fields, stamp: str | None) -> None:
         """Begins to do what a form asks for, if the plan that holds has this stamp, or with any
         plan; a plan that was found for the same form is written. Raises Busy if another one
         runs."""
@@ -199,7 +199,7 @@ class Jobs:
             )
             self._thread.start()
 
-    def _run(self, event: Event, stamp: Optional[str], spoken: io.StringIO, found: Said) -> None:
+    def _run(self, event: Event, stamp: str | None, spoken: io.StringIO, found: Said) -> None:
         fields = self._said.fields
         seen = ""
         try:
@@ -248,7 +248,7 @@ def _is_of_page(record: Record) -> bool:
     return ON_PAGE in record.typed or FROM in record.typed
 
 
-def fault_lines(fault: Exception) -> List[str]:
+def fault_lines(fault: Exception) -> list[str]:
     """A fault as lines; one of the program itself is raised again."""
     if isinstance(fault, FileFaults):
         return [fault_line(told) for told in fault.faults]

@@ -3,7 +3,7 @@ swaps of one cell."""
 
 from dataclasses import replace
 from pathlib import Path
-from typing import Collection, List, Mapping, NamedTuple, Optional, Sequence, Tuple
+from typing import Collection, Mapping, NamedTuple, Sequence
 from urllib.parse import quote
 
 from ..plans.absence import Away
@@ -20,7 +20,7 @@ from ..shown.roster_table import RosterTable
 from ..week.records import WEEK_DAYS, NurseDay
 from ..week.words import readable
 from .cell import Actions, cell_address
-from .forms import FORMS, STAMP, button_markup, form_markup, sure_markup
+from .forms import FORMS, STAMP, STYLE, button_markup, form_markup, sure_markup
 from .jobs import Done, Fields, Said
 
 REFRESH_SECONDS = 2
@@ -30,41 +30,6 @@ _GUIDE = (
     "The spreadsheet is {}: change it, save it, and plan again. "
     "A button that writes asks first, and Undo takes back what the last one wrote. "
 )
-STYLE = """
-form { margin: .5em 0 }
-label { display: inline-block; margin: .1em .3em }
-button, input, select { font: inherit; padding: .25em .5em }
-button { min-width: 11em }
-button:focus-visible, input:focus-visible, select:focus-visible, a:focus-visible { outline: 3px solid #05c; outline-offset: 1px }
-pre { background: #eee; padding: .6em; white-space: pre-wrap }
-pre.fault { background: #fdd }
-.links a { margin-right: 1em }
-td a { display: block; color: inherit; text-decoration: none; min-height: 1.4em }
-td a:hover { outline: 3px solid #05c }
-tbody th a { color: inherit }
-summary { font-weight: 600; padding: .3em 0 }
-.actions { display: grid; grid-template-columns: repeat(auto-fit, minmax(17em, 1fr)); gap: 0 1.5em }
-.actions h3 { font-size: 1em; margin: .6em 0 .2em }
-.actions form { margin: .15em 0 }
-.actions button { width: 100%; text-align: left }
-.actions .words button { width: auto; min-width: 0 }
-@media screen {
-body { max-width: none; margin: .6em 1em }
-h1 { display: inline-block; margin-right: 1em }
-h1 + .links { display: inline-block }
-.plan { overflow: auto; max-height: 84vh; margin-bottom: .4em }
-.plan:has(~ .panel .busy) { max-height: 46vh }
-.plan table { margin: 0 }
-.plan caption { position: absolute; clip-path: inset(50%) }
-.plan thead { position: sticky; top: 0; z-index: 2 }
-.panel { position: sticky; bottom: 0; max-height: 48vh; overflow: auto; background: #fff; border-top: 3px solid #05c; padding: .2em .6em; z-index: 3 }
-#cell, .panel h2 { scroll-margin-top: 100vh }
-.panel h2 { margin: .3em 0 }
-.gone { color: #555 }
-}
-@media print { .panel, #forms, .links { display: none } .plan { overflow: visible } }
-@media screen and (max-width: 40em) { button { width: 100% } label { display: block } select { max-width: 100% } }
-"""
 # The verbs that the page lists.
 _DONE = "done"
 
@@ -74,7 +39,7 @@ class Shown(NamedTuple):
 
     said: Said
     # The cell that was clicked.
-    place: Optional[NurseDay] = None
+    place: NurseDay | None = None
     # The form that asks whether to write, and the fields of the last form.
     asks: Fields = {}
     kept: Fields = {}
@@ -85,7 +50,7 @@ class Shown(NamedTuple):
     # The name of the ward.
     name: str = "Ward"
     # The seconds of a search, if they are not the usual ones.
-    seconds: Optional[float] = None
+    seconds: float | None = None
     # What the folder had when the page was made, and the verb that has made the plan.
     seen: str = ""
     made: str = ""
@@ -93,11 +58,11 @@ class Shown(NamedTuple):
     lines: Sequence[str] = ()
     refused: Sequence[str] = ()
     # The swap that was written for the cell that was clicked.
-    agreed: Optional[Swap] = None
-    roster: Optional["Roster"] = None
+    agreed: Swap | None = None
+    roster: "Roster | None" = None
     # The texts and addresses of the pages of other periods, and whether this is of the one that
     # runs.
-    periods: Sequence[Tuple[str, str]] = ()
+    periods: Sequence[tuple[str, str]] = ()
     runs: bool = True
     # What verbs have done, the last one first.
     history: Sequence[Done] = ()
@@ -137,7 +102,7 @@ def roster_of(top: Path, plan: WardPlan, address: str) -> Roster:
     )
 
 
-def page_markup(plan: Optional[WardPlan], shown: Shown, address: str) -> str:
+def page_markup(plan: WardPlan | None, shown: Shown, address: str) -> str:
     """The page: the roster, and below it a panel with what was said or is asked, or what can be
     done with the cell that was clicked, and the forms. While a verb runs it loads itself again and
     again, and has no plan, which would take the time of the search, but the last roster.
@@ -150,7 +115,7 @@ def page_markup(plan: Optional[WardPlan], shown: Shown, address: str) -> str:
         not said.runs
         and (bool(plan and shown.refused) or (shown.place is not None and not said.fault))
     )
-    panel: List[Markup] = [
+    panel: list[Markup] = [
         *_lines(shown.refused, True),
         *([] if is_old else _said(said, shown, address)),
     ]
@@ -161,7 +126,7 @@ def page_markup(plan: Optional[WardPlan], shown: Shown, address: str) -> str:
             panel.append(Actions(plan, shown.place, address, shown.stamp, shown.agreed).markup())
     elif plan is None and not said.runs:
         panel += _without_plan(shown, address)
-    parts: List[Markup] = [element("h1", name), *_periods(shown)]
+    parts: list[Markup] = [element("h1", name), *_periods(shown)]
     if shown.roster:
         parts += _roster(plan, shown.roster, shown, address)
         panel = [element("div", *panel, class_="busy")] if panel else [element("p", _HINT)]
@@ -182,7 +147,7 @@ def page_markup(plan: Optional[WardPlan], shown: Shown, address: str) -> str:
     return document(heads, parts)
 
 
-def _periods(shown: Shown) -> List[Markup]:
+def _periods(shown: Shown) -> list[Markup]:
     """Links to the pages of other periods, if there are some."""
     links = [joined(element("a", text, href=address), " ") for text, address in shown.periods]
     return [element("p", *links, class_="links")] if links else []
@@ -219,7 +184,7 @@ def _forms(plan: WardPlan, shown: Shown, address: str) -> Markup:
     )
 
 
-def _history(shown: Shown, address: str) -> List[Markup]:
+def _history(shown: Shown, address: str) -> list[Markup]:
     """What was done, the last first, with a button that takes the last back."""
     if not shown.history:
         return []
@@ -246,7 +211,7 @@ def _history(shown: Shown, address: str) -> List[Markup]:
     ]
 
 
-def _without_plan(shown: Shown, address: str) -> List[Markup]:
+def _without_plan(shown: Shown, address: str) -> list[Markup]:
     """What there is if the spreadsheet has a fault, or not yet the days of the next period."""
     again = element("a", "load this page again", href=address)
     begin = (
@@ -265,7 +230,7 @@ def _without_plan(shown: Shown, address: str) -> List[Markup]:
     ]
 
 
-def _lines(lines: Sequence[str], is_fault: bool) -> List[Markup]:
+def _lines(lines: Sequence[str], is_fault: bool) -> list[Markup]:
     """Lines, if there are some, which a screen reader reads at once; of a long text the paragraphs
     after the second one are folded."""
     kind = "fault" if is_fault else None
@@ -279,7 +244,7 @@ def _lines(lines: Sequence[str], is_fault: bool) -> List[Markup]:
     return parts
 
 
-def _said(said: Said, shown: Shown, address: str) -> List[Markup]:
+def _said(said: Said, shown: Shown, address: str) -> list[Markup]:
     """The lines of the last verb, and a button that stops it, that takes back what it wrote, or
     that writes that of which it tells."""
     stop = element(
@@ -317,12 +282,12 @@ def _said(said: Said, shown: Shown, address: str) -> List[Markup]:
     ]
 
 
-def _worked(shown: Shown) -> List[Tuple[str, str]]:
+def _worked(shown: Shown) -> list[tuple[str, str]]:
     """The links to the pages of weeks that are over."""
     return [(text, name) for name, text in shown.worked.items()]
 
 
-def _roster(plan: Optional[WardPlan], roster: Roster, shown: Shown, address: str) -> List[Markup]:
+def _roster(plan: WardPlan | None, roster: Roster, shown: Shown, address: str) -> list[Markup]:
     """Links to its other pages, and the roster."""
     calendars = [("Calendars", CALENDARS)] if plan and plan.days.monday else []
     is_open = plan and not shown.asks
@@ -341,7 +306,7 @@ def _roster(plan: Optional[WardPlan], roster: Roster, shown: Shown, address: str
     ]
 
 
-def _linked(links: Sequence[Tuple[str, str]], address: str) -> List[Markup]:
+def _linked(links: Sequence[tuple[str, str]], address: str) -> list[Markup]:
     """Links to pages by their texts."""
     return [joined(element("a", text, href=f"{address}{page}"), " ") for text, page in links]
 

@@ -6,7 +6,7 @@ import ipaddress
 import sys
 import threading
 from http.server import BaseHTTPRequestHandler, ThreadingHTTPServer
-from typing import Any, Callable, Dict, List, Optional, Tuple
+from typing import Any, Callable
 from urllib.parse import parse_qsl
 
 from ..programs.interrupts import Interrupts
@@ -85,7 +85,7 @@ class _Handler(BaseHTTPRequestHandler):
         if path is None:
             return
         site, path = self.site.view(path)
-        lengths: List[str] = self.headers.get_all("Content-Length", [])
+        lengths: list[str] = self.headers.get_all("Content-Length", [])
         length = (
             _length(lengths[0])
             if len(lengths) == 1 and "Transfer-Encoding" not in self.headers
@@ -117,11 +117,11 @@ class _Handler(BaseHTTPRequestHandler):
             peer = ipaddress.ip_address(said)
         return "" if peer.is_loopback else str(peer)
 
-    def _path(self) -> Tuple[Optional[str], Dict[str, str]]:
+    def _path(self) -> tuple[str | None, dict[str, str]]:
         """The part of the path after the secret, and the query; None if the request is refused."""
         place, _, query = self.path.partition("?")
         known = hmac.compare_digest(place[: len(self.site.base)].encode(), self.site.base.encode())
-        hosts: List[str] = self.headers.get_all("Host", [])
+        hosts: list[str] = self.headers.get_all("Host", [])
         if (
             not known
             or len(hosts) != 1
@@ -155,7 +155,7 @@ class _Handler(BaseHTTPRequestHandler):
         """Nothing is logged: addresses have the secret."""
 
 
-def _length(text: str) -> Optional[int]:
+def _length(text: str) -> int | None:
     """The number of bytes of a form; None if it is none, or too large."""
     is_number = text.isascii() and text.isdecimal() and len(text) <= len(str(_MOST_BYTES))
     return int(text) if is_number and int(text) <= _MOST_BYTES else None

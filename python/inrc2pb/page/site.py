@@ -3,7 +3,7 @@ first, on the page that follows."""
 
 import threading
 from dataclasses import replace
-from typing import Dict, List, NamedTuple, Optional, Sequence, Tuple
+from typing import NamedTuple, Sequence
 from urllib.parse import quote, urlencode, urlsplit
 
 from ..plans.kept import Kept
@@ -41,8 +41,8 @@ class Sent(NamedTuple):
     """A form that is not done: its fields, and lines that say why it was refused, or that go with a
     question."""
 
-    fields: Dict[str, str]
-    lines: List[str]
+    fields: dict[str, str]
+    lines: list[str]
     is_refused: bool
 
 
@@ -59,14 +59,14 @@ class Site:
         self.base = f"/{secret}/"
         # The first day of the period that is shown, if that is not the one that runs.
         self._period = period
-        self._views: Dict[str, Site] = {}
+        self._views: dict[str, Site] = {}
         self.name = shown_name(jobs.folder.top)
         self._kept = Kept[WardPlan]()
         # The last plan that was shown, and its roster.
-        self._shown: Optional[Tuple[WardPlan, Roster]] = None
+        self._shown: tuple[WardPlan, Roster] | None = None
         self._lock = threading.Lock()
 
-    def view(self, path: str) -> "Tuple[Site, str]":
+    def view(self, path: str) -> "tuple[Site, str]":
         """The site of the period that a path names, and the path in it."""
         folder, slash, rest = path.partition("/")
         later = {f"from-{days.monday}": str(days.monday) for days in self._later()} if slash else {}
@@ -83,7 +83,7 @@ class Site:
         except (FileFault, FileFaults, Misuse, OSError):
             return ()
 
-    def _periods(self) -> List[Tuple[str, str]]:
+    def _periods(self) -> list[tuple[str, str]]:
         """The texts and addresses of the pages of other periods."""
         top = self.base.replace(f"from-{self._period}/", "")
         runs = [("The period that runs", top)] if self._period else []
@@ -100,7 +100,7 @@ class Site:
         except Misuse:
             return str(self.jobs.folder.top.resolve())
 
-    def plan(self) -> Tuple[Optional[WardPlan], Said]:
+    def plan(self) -> tuple[WardPlan | None, Said]:
         """The plan that holds, and what is said above it: a fault of the spreadsheet, if there is
         one."""
         said = self.jobs.said()
@@ -125,7 +125,7 @@ class Site:
             folder.files(), folder.stamp, lambda: self.jobs.verbs().current(self._period)
         )
 
-    def roster(self, plan: Optional[WardPlan]) -> Optional[Roster]:
+    def roster(self, plan: WardPlan | None) -> Roster | None:
         """The roster of a plan, if it has one; of the last plan it is known."""
         if plan is None or not (plan.is_planned and plan.weeks):
             return None
@@ -134,7 +134,7 @@ class Site:
                 self._shown = plan, roster_of(self.jobs.folder.top, plan, self.base)
             return self._shown[1]
 
-    def post(self, fields: Dict[str, str], sender: str = "") -> str:
+    def post(self, fields: dict[str, str], sender: str = "") -> str:
         """Does what a form asks for, unless it writes and the user was not asked yet. Returns the
         query of the page that follows: it has the form if that is not done, so that this page asks
         the user, or says why it was refused. The `sender` has this address, if it is another
@@ -167,7 +167,7 @@ class Site:
             form.setdefault("verb", "")
         return f"?{urlencode(form)}"
 
-    def sent(self, query: Dict[str, str]) -> Optional[Sent]:
+    def sent(self, query: dict[str, str]) -> Sent | None:
         """The form that an address has, if it has one: a question, or why it was refused. A
         question for an older plan is asked no more."""
         form = {name: value for name, value in query.items() if name != _LATE}
@@ -191,7 +191,7 @@ class Site:
         )
         return Sent(form, answer.lines, is_refused) if is_refused or writes(form) else None
 
-    def page(self, path: str, query: Dict[str, str]) -> Optional[Page]:
+    def page(self, path: str, query: dict[str, str]) -> Page | None:
         """What an address of the site shows; None if there is no such page."""
         said = self.jobs.said()
         sent = self.sent(query)
@@ -223,7 +223,7 @@ class Site:
         return self._page_of_plan(path, plan) if plan and plan.is_planned and plan.weeks else None
 
     def _first_page(
-        self, plan: Optional[WardPlan], shown: Shown, sent: Optional[Sent], query: Dict[str, str]
+        self, plan: WardPlan | None, shown: Shown, sent: Sent | None, query: dict[str, str]
     ) -> Shown:
         """What the page with the forms shows, with the form that was sent, if it is not done, and
         the cell that was clicked."""
@@ -249,7 +249,7 @@ class Site:
             runs=not self._period,
         )
 
-    def _page_of_plan(self, path: str, plan: WardPlan) -> Optional[Page]:
+    def _page_of_plan(self, path: str, plan: WardPlan) -> Page | None:
         """Another page of a plan: with costs, for the wall, of calendars, or a calendar."""
         top = self.jobs.folder.top
         place = top / f"from-{self._period}" if self._period else top
@@ -271,12 +271,12 @@ class Site:
         return None
 
 
-def _asked(fields: Fields) -> Dict[str, str]:
+def _asked(fields: Fields) -> dict[str, str]:
     """What a form asks for."""
     return {name: value for name, value in fields.items() if name not in (STAMP, SURE)}
 
 
-def _look(said: Said, stamp: str) -> Optional[Sent]:
+def _look(said: Said, stamp: str) -> Sent | None:
     """The question whether to write a plan that was found, if the plan with this stamp still
     holds."""
     return (
@@ -286,7 +286,7 @@ def _look(said: Said, stamp: str) -> Optional[Sent]:
     )
 
 
-def _kept(said: Said, sent: Optional[Sent]) -> Fields:
+def _kept(said: Said, sent: Sent | None) -> Fields:
     """The values that stay in the form that was sent last: of one that was refused, of a look for a
     swap, or of a verb that failed."""
     if sent:
@@ -294,7 +294,7 @@ def _kept(said: Said, sent: Optional[Sent]) -> Fields:
     return said.fields if said.fault or said.fields.get("verb") == "swap" else {}
 
 
-def _place(plan: Optional[WardPlan], query: Dict[str, str]) -> Optional[NurseDay]:
+def _place(plan: WardPlan | None, query: dict[str, str]) -> NurseDay | None:
     """The cell that an address names, if the plan has it."""
     nurse = query.get("nurse", "")
     day = query.get("day", "")
@@ -308,7 +308,7 @@ def _place(plan: Optional[WardPlan], query: Dict[str, str]) -> Optional[NurseDay
     return NurseDay(nurse, int(day)) if known else None
 
 
-def _looked(plan: Optional[WardPlan], kept: Fields, said: Said) -> Optional[NurseDay]:
+def _looked(plan: WardPlan | None, kept: Fields, said: Said) -> NurseDay | None:
     """The nurse and the day of a look for all swaps, whose offers the page shows as buttons."""
     if plan is None or kept.get("verb") != "swap" or kept.get("other") or said.fault or said.runs:
         return None

@@ -7,7 +7,7 @@ command is that of the outcome.
 
 import enum
 from dataclasses import dataclass, replace
-from typing import Callable, List, NamedTuple, Optional, Tuple, TypeVar
+from typing import Callable, NamedTuple, TypeVar
 
 from ..programs.program import BROKEN_RULE, NO_ROSTER, READ_OR_WRITE
 from ..week.records import Cell, NurseDay, Place
@@ -35,9 +35,9 @@ class Event(NamedTuple):
     # A verb, or a reason to be away.
     verb: str
     # The names and days after it.
-    words: Tuple[str, ...] = ()
+    words: tuple[str, ...] = ()
     # The seconds of a search, if they are not the usual ones.
-    seconds: Optional[float] = None
+    seconds: float | None = None
     # Whether all shifts may change.
     free: bool = False
     # Whether a swap, a day that is set, or a plan that exceeds a maximum that holds, is written.
@@ -80,11 +80,11 @@ class Outcome:
     is_written: bool = False
     pages: Pages = Pages()
 
-    def lines(self, write: str = "") -> List[str]:
+    def lines(self, write: str = "") -> list[str]:
         """What is said of it. `write` says how a user writes what was only looked at."""
         raise NotImplementedError
 
-    def question(self) -> List[str]:
+    def question(self) -> list[str]:
         """What a question says of it before it is done; why it cannot be, if that is known."""
         return self.lines()
 
@@ -122,7 +122,7 @@ class Form(NamedTuple):
     refused: str = ""
     # The heading of a form with fields, and these.
     heading: str = ""
-    fields: Tuple[str, ...] = ()
+    fields: tuple[str, ...] = ()
     needs_plan: bool = True
 
 
@@ -130,14 +130,14 @@ class Verb(NamedTuple):
     """A verb of the terminal and of the page."""
 
     # Its names: each reason to be away is a verb.
-    names: Tuple[str, ...]
+    names: tuple[str, ...]
     # The words after it and its effect, as the help has them.
     words: str
     effect: str
     done: Callable[[PlanStore, Event], Outcome]
     form: Form
     # What comes of it before anything is searched or written, as far as that is known.
-    asked: Callable[[PlanStore, Event], Optional[Outcome]] = lambda store, event: None
+    asked: Callable[[PlanStore, Event], Outcome | None] = lambda store, event: None
     # Whether it searches, so that it has seconds.
     searches: bool = False
 
@@ -152,7 +152,7 @@ def wording_of(plan: WardPlan, event: Event, usage: str) -> Wording:
     return Wording(event.words, plan.scenario.nurses, plan.days, plan.first, usage)
 
 
-def cell_of(wording: Wording, old: WardPlan, place: NurseDay) -> Optional[Cell]:
+def cell_of(wording: Wording, old: WardPlan, place: NurseDay) -> Cell | None:
     """The shift of a nurse's day that the next words name, or None for `off`. Without a skill she
     has her old one, or one that is asked for, if she has it."""
     skills = old.scenario.nurses[place.nurse].skills

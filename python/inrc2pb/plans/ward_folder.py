@@ -11,7 +11,7 @@ import tempfile
 import threading
 import zlib
 from pathlib import Path
-from typing import Callable, Dict, Iterator, List, Optional, Sequence, TextIO, Tuple
+from typing import Callable, Iterator, Sequence, TextIO
 
 from ..programs.interrupts import interrupts
 from ..sheets.open_shifts import OpenShift
@@ -47,7 +47,7 @@ def has_spreadsheet(top: Path) -> bool:
     )
 
 
-def tables_of(spreadsheet: Path) -> List[Path]:
+def tables_of(spreadsheet: Path) -> list[Path]:
     """The files of a spreadsheet: itself, or the .csv files of a folder."""
     if not spreadsheet.is_dir():
         return [spreadsheet]
@@ -101,9 +101,9 @@ class WardFolder:
 
     def ward(
         self,
-        name: Optional[str] = None,
+        name: str | None = None,
         absences: Sequence[DayWord] = (),
-        period: Optional[PlanDays] = None,
+        period: PlanDays | None = None,
         opened: Sequence[OpenShift] = (),
     ) -> Ward:
         """The ward of a period of the spreadsheet, or of all its days; it has this name, if it has
@@ -134,11 +134,11 @@ class WardFolder:
         spreadsheet = self.spreadsheet()
         return self._book.of(tables_of(spreadsheet), None, lambda: read_book(spreadsheet))
 
-    def all_plans(self) -> List[Path]:
+    def all_plans(self) -> list[Path]:
         """The folders of all plans, in the order in which they were made."""
         return sorted(_own_folders(self.plans), key=place_of)
 
-    def last(self) -> Optional[Path]:
+    def last(self) -> Path | None:
         """The folder of the plan that holds, if there is one."""
         return next(reversed(self.all_plans()), None)
 
@@ -149,7 +149,7 @@ class WardFolder:
         last = self.last()
         return last.name if last else "none"
 
-    def files(self) -> List[Path]:
+    def files(self) -> list[Path]:
         """The files of the spreadsheet, and of the plan that holds."""
         last = self.last()
         return [*tables_of(self.spreadsheet()), *(sorted(last.iterdir()) if last else ())]
@@ -164,7 +164,7 @@ class WardFolder:
             looks = str(fault)
         return f"{self.stamp} {zlib.crc32(looks.encode(errors='surrogateescape')):08x}"
 
-    def add(self, verb: str, texts: Dict[str, str], now: datetime.datetime) -> Path:
+    def add(self, verb: str, texts: dict[str, str], now: datetime.datetime) -> Path:
         """Writes a plan with these files: its folder is there as a whole or not at all. Raises
         Misuse if no later verb could read it."""
         number = 1 + max(
@@ -188,7 +188,7 @@ class WardFolder:
             raise
         return target
 
-    def undone(self) -> List[Path]:
+    def undone(self) -> list[Path]:
         """The folders of the plans that were undone."""
         return _own_folders(self.plans / UNDONE)
 
@@ -256,7 +256,7 @@ class WardFolder:
         raise KeyboardInterrupt
 
 
-def _own_folders(top: Path) -> List[Path]:
+def _own_folders(top: Path) -> list[Path]:
     """The folders of plans in a folder, which are no links, if it is none either."""
     if top.is_symlink() or not top.is_dir():
         return []
@@ -267,7 +267,7 @@ def _own_folders(top: Path) -> List[Path]:
     ]
 
 
-def place_of(plan: Path) -> Tuple[int, str]:
+def place_of(plan: Path) -> tuple[int, str]:
     """The number and the name of a plan's folder: the plan after number 9999 has five digits."""
     return int(plan.name.partition("-")[0]), plan.name
 
