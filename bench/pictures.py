@@ -38,7 +38,7 @@ MADE = datetime.date(2026, 11, 28)
 CLICKED = "nurse=Dilek&day=2"
 SECONDS = 20
 # The windows of the pictures.
-WINDOWS = {"sheet": "1240,215", "sheets": "890,590", "wall": "1230,390", "page": "1366,500"}
+WINDOWS = {"sheet": "1240,215", "sheets": "890,590", "wall": "1230,390", "page": "1366,595"}
 MOST_BYTES = 180_000
 STEP = 100
 PROGRESS = re.compile(r" *([\d.]+) s  penalty (\d+)(?:  bound (\d+))?")
@@ -134,7 +134,7 @@ def draw_ward() -> None:
             page = Path(folder, f"{name}.html")
             page.write_text(page_of_sheets(ward / "ward.ods", sheets), encoding="utf-8")
             shoot(page.as_uri(), name)
-        for verb in (["plan", "--time", str(SECONDS)], ["page"]):
+        for verb in (["plan", "--time", str(SECONDS)], ["page", "--do"]):
             run("inrc2pb-plan", "my ward", *verb, folder=folder)
         shoot((ward / "wall.html").as_uri(), "wall")
         with subprocess.Popen(
