@@ -47,11 +47,11 @@ class Bound:
     by: str
     only: str = ""
 
-    def lines(self, penalty: int, what: str, of: str = "") -> list[str]:
-        """The bound, and what it says of a roster or plan with this penalty; `of` names what the
-        points are."""
+    def lines(self, penalty: int, what: str, counted: str = "") -> list[str]:
+        """The bound, and what it says of a roster or plan with this penalty; `counted` names what
+        the points are."""
         only = f" with all {self.only}" if self.only else ""
-        bound = f"lower bound {self.points}{of}{only} ({self.by})"
+        bound = f"lower bound {self.points}{counted}{only} ({self.by})"
         if penalty > self.points:
             gap = penalty - self.points
             return [f"{bound}: the gap is {gap}, {gap_share(penalty, self.points)}"]
