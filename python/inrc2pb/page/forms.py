@@ -57,16 +57,21 @@ body { max-width: none; margin: .6em 1em }
 h1 { display: inline-block; margin-right: 1em }
 h1 + .links { display: inline-block }
 .plan { overflow: auto; max-height: 84vh; margin-bottom: .4em }
-.plan:has(~ .panel .busy) { max-height: 46vh }
-.plan table { margin: 0 }
+.plan:has(~ .panel .busy) { max-height: 55vh }
+.plan table { margin: 0; border-collapse: separate; border-spacing: 0; border: solid #999; border-width: 1px 0 0 1px }
+.plan th, .plan td { border-width: 0 1px 1px 0 }
+.plan .sat { border-left-width: 2.5px }
+.plan .sun { border-right-width: 2.5px }
+.plan .changed, .plan .few { border-width: 2.5px }
 .plan caption { position: absolute; clip-path: inset(50%) }
 .plan thead { position: sticky; top: 0; z-index: 2 }
-.panel { position: sticky; bottom: 0; max-height: 48vh; overflow: auto; background: #fff; border-top: 3px solid #05c; padding: .2em .6em; z-index: 3 }
+.panel { position: sticky; bottom: 0; max-height: 40vh; overflow: auto; background: #fff; border-top: 3px solid #05c; padding: .2em .6em; z-index: 3 }
 #cell, .panel h2 { scroll-margin-top: 100vh }
 .panel h2 { margin: .3em 0 }
 .gone { color: #555 }
 }
 @media print { .panel, #forms, .links { display: none } .plan { overflow: visible } }
+@media screen and (min-width: 60em) { .plan .roster thead tr > :first-child { width: 10.5em } }
 @media screen and (max-width: 40em) { button { width: 100% } label { display: block } select { max-width: 100% } }
 """
 

@@ -177,3 +177,14 @@ class BrowserTest(FolderTest):
         """The page is not wider than the screen: only its table is, and that can be moved."""
         wide = self.browser.execute_script("return document.documentElement.scrollWidth")
         self.assertLessEqual(wide, self.width)
+        # Names and days stay in view while the table is moved, and the panel is below it.
+        script = (
+            "const box = one => document.querySelector(one).getBoundingClientRect();"
+            "document.querySelector('.plan').scrollTo(150, 60);"
+            "return [box('.plan thead').top - box('.plan').top,"
+            " box('.plan tbody th').left - box('.plan').left,"
+            " box('.panel').top - box('.plan').bottom]"
+        )
+        top, left, below = self.browser.execute_script(script)
+        self.assertLessEqual(max(abs(top), abs(left)), 2)
+        self.assertGreaterEqual(below, 0)
