@@ -242,45 +242,41 @@ def button_markup(fields: Fields, text: str, address: str) -> Markup:
 
 
 def _field(name: str, plan: WardPlan, kept: str, seconds: float) -> Markup:
+    """A field with its label, and the value that was sent last."""
     label = f"{_LABELS.get(name, name)} "
     if name in _CHECKS:
-        return joined(
-            element("label", element("input", type="checkbox", name=name, value="yes"), label), " "
-        )
-    if name in ("seconds", "corrections", "note"):
-        kind = (
-            {"type": "number", "min": "1", "max": f"{_MOST_SECONDS:.0f}"}
-            if name == "seconds"
-            else {"type": "text"}
-        )
-        kind["placeholder"] = f"{seconds:g}" if name == "seconds" else ""
-        return joined(
-            element("label", label, element("input", name=name, value=kept or None, **kind)), " "
-        )
-    choices: Sequence[tuple[str, str]]
-    if name == "shift":
-        choices = [
-            (OFF, "off, promised"),
-            *((shift, readable(shift)) for shift in plan.scenario.shift_types),
-        ]
-    elif name == "reason":
-        choices = [(word, word) for word in ("ill", *(word for word in AWAY if word != "ill"))]
-    elif name in ("nurse", "other"):
-        choices = [(nurse, readable(nurse)) for nurse in plan.scenario.nurses]
-    else:
-        choices = [
-            (plan.days.head(day), plan.days.text(day)) for day in range(plan.first, plan.days.total)
-        ]
-    choices = [("", _EMPTY.get(name, "choose")), *choices]
+        check = element("input", type="checkbox", name=name, value="yes")
+        return joined(element("label", check, label), " ")
+    return joined(element("label", label, _input(name, plan, kept, seconds)), " ")
+
+
+def _input(name: str, plan: WardPlan, kept: str, seconds: float) -> Markup:
+    """What is typed or chosen; a field with another name than these has the days of the plan."""
+    match name:
+        case "seconds":
+            return element(
+                "input",
+                name=name,
+                value=kept or None,
+                type="number",
+                min="1",
+                max=f"{_MOST_SECONDS:.0f}",
+                placeholder=f"{seconds:g}",
+            )
+        case "corrections" | "note":
+            return element("input", name=name, value=kept or None, type="text", placeholder="")
+        case "shift":
+            shifts = ((shift, readable(shift)) for shift in plan.scenario.shift_types)
+            choices = [(OFF, "off, promised"), *shifts]
+        case "reason":
+            choices = [(word, word) for word in ("ill", *(word for word in AWAY if word != "ill"))]
+        case "nurse" | "other":
+            choices = [(nurse, readable(nurse)) for nurse in plan.scenario.nurses]
+        case _:
+            days = range(plan.first, plan.days.total)
+            choices = [(plan.days.head(day), plan.days.text(day)) for day in days]
     options = [
         element("option", text, value=value, selected="" if value and value == kept else None)
-        for value, text in choices
+        for value, text in [("", _EMPTY.get(name, "choose")), *choices]
     ]
-    return joined(
-        element(
-            "label",
-            label,
-            element("select", *options, name=name, required=None if name in _EMPTY else ""),
-        ),
-        " ",
-    )
+    return element("select", *options, name=name, required=None if name in _EMPTY else "")

@@ -3,7 +3,7 @@ weeks."""
 
 from dataclasses import dataclass, field, replace
 from pathlib import Path
-from typing import Iterable, Iterator, Mapping, Sequence
+from typing import Iterator, Mapping, Sequence
 
 from ..judging.breaches import other_week
 from ..judging.limits import read_given, with_given
@@ -50,49 +50,36 @@ def read_view(files: RosterFiles) -> RosterView:
     views = []
     for index, (solution, fix) in enumerate(zip(solutions, fixes)):
         held = read_solution(fix, scenario, texts[fix]).cells if fix else ()
-        data = (
-            with_given(scenario, datas[index], claims, numbers[index])
-            if scenario and datas
-            else None
-        )
-        week = Week(scenario, histories[index], data) if scenario and histories and data else None
-        number = histories[index].week if week else solution.week
-        of_week = {
+        view = WeekView(solution.week, solution.cells, held=held, early=files.early)
+        if scenario and datas:
+            view.data = with_given(scenario, datas[index], claims, numbers[index])
+            if histories:
+                view.week = Week(scenario, histories[index], view.data)
+                view.number = numbers[index]
+        view.reasons = {
             (away.nurse, away.day): word
             for away, word in reasons.items()
-            if away.week == number + 1
+            if away.week == view.number + 1
         }
-        views.append(
-            WeekView(
-                number,
-                solution.cells,
-                data,
-                week=week,
-                held=held,
-                early=files.early,
-                reasons=of_week,
-            )
-        )
-    if scenario:
-        warnings = [
-            *_other_weeks(files.rosters, texts, scenario, histories),
-            *_other_weeks(fixes, texts, scenario, histories),
-        ]
-        return RosterView(
-            scenario.name,
-            list(scenario.nurses),
-            list(scenario.shift_types),
-            skills=list(scenario.skills),
-            weeks=views,
-            warnings=warnings,
-        )
-    shown = [cell for view in views for cell in view.cells]
-    nurses = (row.nurse for row in shown)
-    shifts = (row.shift for row in shown)
-    skills = (row.skill for row in shown)
-    return RosterView(
-        solutions[0].scenario, _each_once(nurses), _each_once(shifts), _each_once(skills), views
+        views.append(view)
+    if not scenario:
+        return _view_of_rosters(solutions[0].scenario, views)
+    warnings = [
+        *_other_weeks(files.rosters, texts, scenario, histories),
+        *_other_weeks(fixes, texts, scenario, histories),
+    ]
+    names = (list(scenario.nurses), list(scenario.shift_types), list(scenario.skills))
+    return RosterView(scenario.name, *names, views, warnings)
+
+
+def _view_of_rosters(name: str, views: Sequence[WeekView]) -> RosterView:
+    """Rosters without their scenario: names come in the order in which they first occur."""
+    rows = [cell for view in views for cell in view.cells]
+    nurses, shifts, skills = (
+        list(dict.fromkeys(getattr(row, what) for row in rows))
+        for what in ("nurse", "shift", "skill")
     )
+    return RosterView(name, nurses, shifts, skills, views)
 
 
 def read_old(files: RosterFiles, rosters: Sequence[Path]) -> RosterView:
@@ -115,11 +102,6 @@ def read_old(files: RosterFiles, rosters: Sequence[Path]) -> RosterView:
                 " rosters of one week"
             )
     return replace(read_view(replace(files, rosters=rosters)), warnings=())
-
-
-def _each_once(names: Iterable[str]) -> list[str]:
-    """The names in the order in which they first occur."""
-    return list(dict.fromkeys(names))
 
 
 def _check_numbers(files: RosterFiles) -> None:
