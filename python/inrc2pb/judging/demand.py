@@ -6,7 +6,17 @@ from fractions import Fraction
 from typing import Collection, Iterator, Mapping, NamedTuple, Sequence
 
 from ..week.facts import SHIFTS
-from ..week.records import DAYS, Absence, Cell, History, Place, Scenario, WeekData, together
+from ..week.records import (
+    DAYS,
+    Absence,
+    Cell,
+    History,
+    Place,
+    Scenario,
+    WeekData,
+    in_plan,
+    together,
+)
 from ..week.soft_rules import ASSIGNMENT_TOTAL, MISSING_NURSE
 from ..week.words import joined
 from .absences import absences_of
@@ -97,45 +107,42 @@ def supply_warnings(
     contracts supply beside absences."""
     if history.week + len(weeks) != scenario.weeks:
         return
-    whole_days = [
-        (number, absence)
-        for number, data in enumerate(weeks)
-        for absence in absences_of(data)
-        if absence.shift is None
-    ]
-    supplied = 0
-    days = len(DAYS) * len(weeks)
-    for nurse in scenario.nurses:
-        there = days - len(
-            {(number, absence.day) for number, absence in whole_days if absence.nurse == nurse}
-        )
-        supplied += max(
-            0,
-            min(
-                scenario.contract_of(nurse).assignments.maximum - history.nurses[nurse].assignments,
-                there,
-            ),
-        )
+    supplied = _supplied_to_the_end(scenario, history, weeks)
     least, best = (sum(numbers) for numbers in zip(*map(asked_shifts, weeks)))
-    if best > supplied:
-        hold = {limit.nurse for data in weeks for limit in data.limits if limit.kind == SHIFTS}
+    if best <= supplied:
+        return
+    asks = (
+        f"the best numbers ask for {best} shifts, the minimum numbers for {least}, and the"
+        f" contracts supply at most {supplied} beside absences"
+    )
+    hold = {limit.nurse for data in weeks for limit in data.limits if limit.kind == SHIFTS}
+    if not hold.issuperset(scenario.nurses):
         costs = (
             f"each shift above costs {ASSIGNMENT_TOTAL} points, and a nurse below a best number"
             f" {MISSING_NURSE}: lower best numbers"
         )
-        above = hold.issuperset(scenario.nurses) and least > supplied
-        if above:
-            costs = (
-                f"{least - supplied} too many to keep the limits that hold: lower minimum numbers"
-            )
-        elif hold.issuperset(scenario.nurses):
-            costs = (
-                f"{best - supplied} will be missing, for {MISSING_NURSE} points each: lower best"
-                " numbers"
-            )
-        supply = f"and the contracts supply at most {supplied} beside absences"
-        asks = f"the best numbers ask for {best} shifts, the minimum numbers for {least}"
-        yield Warned(f"{asks}, {supply}: {costs}", Reach.NOT_ALL if above else Reach.ALL)
+        yield Warned(f"{asks}: {costs}")
+    elif least > supplied:
+        cure = f"{least - supplied} too many to keep the limits that hold: lower minimum numbers"
+        yield Warned(f"{asks}: {cure}", Reach.NOT_ALL)
+    else:
+        costs = f"{best - supplied} will be missing, for {MISSING_NURSE} points each"
+        yield Warned(f"{asks}: {costs}: lower best numbers")
+
+
+def _supplied_to_the_end(scenario: Scenario, history: History, weeks: Sequence[WeekData]) -> int:
+    """The shifts that contracts allow in these weeks, on days on which nurses are not away."""
+    away = in_plan(absences_of(data) for data in weeks)
+    off = {absence.nurse_day for absence in away if absence.shift is None}
+    days = len(DAYS) * len(weeks)
+    left = {
+        nurse: scenario.contract_of(nurse).assignments.maximum - past.assignments
+        for nurse, past in history.nurses.items()
+    }
+    return sum(
+        max(0, min(left[nurse], days - sum(who == nurse for who, _ in off)))
+        for nurse in scenario.nurses
+    )
 
 
 def can_work(
