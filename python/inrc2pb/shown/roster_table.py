@@ -189,45 +189,41 @@ class RosterTable:
         return joined(shown(short), hidden(f"{shift} {skill}"), *signs)
 
     def legend(self) -> list[str]:
-        """The meaning of short names, the times of shift types, and the marks."""
-        lines = []
+        """The meaning of short names, the times of shift types, and the marks and sums."""
+        page = self.page
+        marks = {
+            mark
+            for index, week in enumerate(self.view.weeks)
+            for row in week.cells
+            for mark in page.marks(index, *row.nurse_day, week.marks(row))
+        }
+        is_swapped = any(page.is_swapped(*place) for place in page.swapped)
+        signs = [
+            *((mark, meaning, mark in marks) for mark, meaning in MEANINGS.items()),
+            (CHANGED, page.changed, bool(self.changed)),
+            (SWAPPED, SWAPPED_MEANING, is_swapped),
+            (PROMISED, PROMISED_MEANING, bool(page.promised)),
+            (HOLIDAY, HOLIDAY_MEANING, bool(page.holidays)),
+        ]
+        said = [f"{sign} = {meaning}" for sign, meaning, is_there in signs if is_there]
+        return [*self._names(), *said, *(self._sums_in_words() if page.only_table else ())]
+
+    def _names(self) -> Iterator[str]:
+        """The short names of shift types and skills, and the times of shift types."""
         for shift in self.view.shifts:
             short = "" if self.single or self.short[shift] == shift else f"{self.short[shift]} = "
             times = f", {self.page.times[shift]}" if shift in self.page.times else ""
             if short or times:
-                lines.append(f"{short}{readable(shift)}{times}")
-        if not self.single and len(self.skills) > 1:
-            lines += [
-                f"{short} = {readable(skill)}"
-                for skill, short in self.skills.items()
-                if short != skill
-            ]
-        rows = [
-            (number, row, week.marks(row))
-            for number, week in enumerate(self.view.weeks)
-            for row in week.cells
-        ]
-        marks = {
-            mark
-            for week, row, some in rows
-            for mark in self.page.marks(week, row.nurse, row.day, some)
-        }
-        meanings = {**MEANINGS, CHANGED: self.page.changed}
-        lines += [
-            f"{mark} = {meaning}"
-            for mark, meaning in meanings.items()
-            if mark in marks or mark == CHANGED and self.changed
-        ]
-        if any(self.page.is_swapped(*place) for place in self.page.swapped):
-            lines.append(f"{SWAPPED} = {SWAPPED_MEANING}")
-        if self.page.promised:
-            lines.append(f"{PROMISED} = {PROMISED_MEANING}")
-        if self.page.holidays:
-            lines.append(f"{HOLIDAY} = {HOLIDAY_MEANING}")
-        if self.page.only_table and self.page.sums:
-            mean = hours_text(mean_length(self.page.times))
-            return lines + [
-                f"{SUM_HEADS[head]} = {MEANINGS_OF_SUMS[head].format(mean)}"
-                for head in sum_heads(bool(self.page.times))
-            ]
-        return lines + ([f"{WEEKENDS} = weekends with work"] if self.page.only_table else [])
+                yield f"{short}{readable(shift)}{times}"
+        for skill, short in self.skills.items():
+            if short != skill and not self.single and len(self.skills) > 1:
+                yield f"{short} = {readable(skill)}"
+
+    def _sums_in_words(self) -> Iterator[str]:
+        """The heads of sums, and what they mean."""
+        if not self.page.sums:
+            yield f"{WEEKENDS} = weekends with work"
+            return
+        mean = hours_text(mean_length(self.page.times))
+        for head in sum_heads(bool(self.page.times)):
+            yield f"{SUM_HEADS[head]} = {MEANINGS_OF_SUMS[head].format(mean)}"
