@@ -14,6 +14,7 @@ def warning_lines(
     other_pages: Sequence[str] = (),
     anew: Sequence[WeekRow] = (),
     strangers: Strangers = Strangers(),
+    undone: Sequence[str] = (),
 ) -> list[str]:
     """What is odd in the spreadsheet and in the folder: pages that show another plan, rows of needs
     that are as they were last period, and nurses who may have another name now."""
@@ -21,6 +22,11 @@ def warning_lines(
         f"{name} shows another plan than the one that holds, as if a run was killed: the verbs plan"
         " and page write it anew"
         for name in other_pages
+    ]
+    told += [
+        f"plans/undone/{name} was taken back, perhaps by an older version, which cannot read it:"
+        " move it into plans to take that back"
+        for name in undone
     ]
     warnings = [
         *told,

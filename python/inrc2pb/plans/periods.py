@@ -48,6 +48,16 @@ class Period(NamedTuple):
         """Whether all its weeks are over."""
         return self.ended is not None or self.open_week >= self.days.weeks
 
+    @property
+    def known_weeks(self) -> int:
+        """The weeks of which is known how they were worked: not the last one, if an older version
+        has ended the period and kept no rosters."""
+        if self.ended is None:
+            return self.open_week
+        names = map(roster_name, range(self.days.weeks))
+        are_kept = all((self.ended / name).exists() for name in names)
+        return self.days.weeks if are_kept else self.days.weeks - 1
+
 
 def kept_plans(folders: Iterable[Path]) -> Iterator[KeptPlan]:
     """The folders that are not damaged, with their periods. The record of an older version has no
@@ -81,8 +91,8 @@ def state_of(period: Period) -> State:
     if period.ended is None:
         return state
     rosters = [period.ended / roster_name(week) for week in range(period.days.weeks)]
-    are_kept = all(path.exists() for path in rosters)
-    cells = in_plan(read_solution(path).cells for path in rosters) if are_kept else state.cells
+    is_known = period.known_weeks == period.days.weeks
+    cells = in_plan(read_solution(path).cells for path in rosters) if is_known else state.cells
     return replace(state, open_week=period.days.weeks, cells=cells)
 
 

@@ -6,7 +6,7 @@ import shlex
 from dataclasses import replace
 from typing import Iterator, NamedTuple, Sequence
 
-from ..sheets.older_names import Names
+from ..sheets.older_names import Begin, Names
 from ..sheets.ward import Ward
 from ..sheets.week_rows import WeekRow, unchanged_rows
 from ..week.dates import PlanDays
@@ -25,7 +25,7 @@ from .periods import (
     state_of,
 )
 from .fits import check_sheet
-from .plan_files import read_state
+from .plan_files import known_record, read_state
 from .state import State, renamed
 from .ward import BeforeAndAfter, WardPlan, continued, first_plan
 from .ward_folder import WardFolder
@@ -115,7 +115,9 @@ class PlanReader:
         state = replace(state, is_as_planned=before is not None and not before.is_over)
         weeks = self._usual_weeks(list(periods.values()))
         days = state.days if known else _first_weeks(self.folder.days(), state.days, weeks)
-        ward = self.folder.ward(state.start.scenario, state.absences, days, state.opened)
+        of_before = (past, state_of(before).was) if before and past else (state.start, state.was)
+        begin = Begin(tuple(of_before[0].nurses.values()), of_before[1]) if number else Begin()
+        ward = self.folder.ward(state.start.scenario, state.absences, days, state.opened, begin)
         after = periods.get(number + 1)
         border = border_of(ward, self._named(state_of(after), ward)) if after else ()
         if before and past:
@@ -140,6 +142,17 @@ class PlanReader:
     def _named(self, state: State, ward: Ward) -> State:
         """A state with the names that nurses and shift types have in a ward."""
         return state.renamed(ward.names_since(state.was))
+
+    def undone_by_older(self) -> tuple[str, ...]:
+        """The names of plans that an older version may have taken back, since it cannot read them:
+        those after the last plan, if that is of such a version."""
+        last = self.folder.last()
+        record = known_record(last) if last else None
+        if last is None or record is None or record.period is not None:
+            return ()
+        newer = (path for path in self.folder.undone() if path.name > last.name)
+        records = ((path.name, known_record(path)) for path in newer)
+        return tuple(sorted(name for name, one in records if one and one.period is not None))
 
     def names_since(self, state: State) -> Names:
         """The names in the spreadsheet for those of an older plan."""

@@ -14,6 +14,7 @@ from pathlib import Path
 from typing import Callable, Iterator, Sequence, TextIO
 
 from ..programs.interrupts import interrupts
+from ..sheets.older_names import Begin
 from ..sheets.open_shifts import OpenShift
 from ..sheets.period_row import weeks_of_period
 from ..sheets.plan_days import read_days
@@ -105,19 +106,21 @@ class WardFolder:
         absences: Sequence[DayWord] = (),
         period: PlanDays | None = None,
         opened: Sequence[OpenShift] = (),
+        begin: Begin = Begin(),
     ) -> Ward:
         """The ward of a period of the spreadsheet, or of all its days; it has this name, if it has
-        one, and these days away in its plan, and these shifts are left open."""
+        one, and these days away in its plan, these shifts are left open, and nurses begin so."""
         spreadsheet = self.spreadsheet()
         return self._ward.of(
             tables_of(spreadsheet),
-            (name, tuple(absences), period, tuple(opened)),
+            (name, tuple(absences), period, tuple(opened), begin),
             lambda: ward_of(
                 self.book(),
                 name or ward_name(spreadsheet),
                 absences,
                 period=period,
                 opened=opened,
+                begin=begin,
             ),
         )
 

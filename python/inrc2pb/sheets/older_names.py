@@ -4,9 +4,11 @@ An older name counts once: a plan keeps which ones it knew, so two nurses may ex
 the column may stay. Plans have no names of contracts, so a contract may have another name at once.
 """
 
-from typing import Collection, Iterable, NamedTuple
+from dataclasses import replace
+from typing import Collection, Iterable, NamedTuple, Sequence
 
 from ..week.faults import Gathering
+from ..week.records import NurseHistory
 from .sheet_rows import SheetRow, Table
 
 NURSES = "nurses"
@@ -20,6 +22,23 @@ class Renamed(NamedTuple):
     sheet: str
     older: str
     now: str
+
+
+class Begin(NamedTuple):
+    """What the period before knows of nurses at the begin of one, in place of the columns on days
+    before the plan, and which older names it knew."""
+
+    rows: tuple[NurseHistory, ...] = ()
+    was: tuple[Renamed, ...] = ()
+
+    def nurses(self, now: Sequence[Renamed]) -> dict[str, NurseHistory]:
+        """The same by the names of now."""
+        names = Names(one for one in now if one not in self.was)
+        rows = (
+            replace(row, last_shift=row.last_shift and names.shift(row.last_shift))
+            for row in self.rows
+        )
+        return {names.nurse(row.nurse): replace(row, nurse=names.nurse(row.nurse)) for row in rows}
 
 
 class Names:

@@ -29,7 +29,7 @@ from ..week.slots import MAX_NUMBER
 from .odd_tables import odd_sheets, odd_weeks
 from .employment import employed, with_changed_contracts
 from .open_shifts import OpenShift, lowered
-from .older_names import Names, Renamed
+from .older_names import Begin, Names, Renamed
 from .period_row import without_period
 from .plan_days import Days, read_days
 from .plan_sheets import (
@@ -93,11 +93,18 @@ class Ward:
     kept_runs: frozenset[str] = frozenset()
     # The shifts that are left open, without which the minimum numbers of files are.
     opened: tuple[OpenShift, ...] = ()
+    # What the period before knows of nurses.
+    begin: Begin = Begin()
 
     def with_absences(self, absences: Sequence[DayWord]) -> "Ward":
         """The ward of the same spreadsheet with other days away that verbs have written."""
         ward = ward_of(
-            self.book, self.scenario.name, absences, period=self.days, opened=self.opened
+            self.book,
+            self.scenario.name,
+            absences,
+            period=self.days,
+            opened=self.opened,
+            begin=self.begin,
         )
         return ward.with_border(self.border)
 
@@ -222,10 +229,11 @@ def ward_of(
     reasons: Sequence[str] = COUNTED,
     period: PlanDays | None = None,
     opened: Sequence[OpenShift] = (),
+    begin: Begin = Begin(),
 ) -> Ward:
     """The ward of a period of a spreadsheet that was read, or of all its days. Absences for these
     reasons count as work, illnesses as the shifts that they have taken from plans on the wall.
-    These shifts are left open.
+    These shifts are left open, and `begin` has what the period before knows of nurses.
     Raises FileFaults if sheets have mistakes, or more than files can have."""
     columns = days_of(book, period)
     here, away_words, changes = employed(_with_contracts(book), columns)
@@ -234,6 +242,7 @@ def ward_of(
     with Gathering() as faults:
         tables = read_ward(written, name, days.weeks, faults)
         sheets = read_weeks(written, tables, days, faults)
+    tables = tables._replace(history=_with_begin(tables, begin))
     check_held(tables, sheets)
     tables = with_changed_contracts(tables, changes, days.plan_days.total)
     away = _in_plan(sheet.reasons for sheet in sheets)
@@ -259,12 +268,25 @@ def ward_of(
         book=book,
         kept_runs=tables.kept_runs,
         opened=tuple(opened),
+        begin=begin,
     )
     past = credited(ward.past, ward.counted)
     data = [ward.given(number) for number in range(len(ward.weeks))]
     odd, reach = odd_weeks(ward.scenario, past, data, ward.counted, ward.days)
     warnings = [*odd_sheets(written, days, tables, sheets, ward.times), *odd]
     return replace(ward, warnings=warnings, reach=reach)
+
+
+def _with_begin(tables: WardTables, begin: Begin) -> History:
+    """The history with what the period before knows. A shift type that the sheets do not have is
+    told later."""
+    known = begin.nurses(tables.was)
+    types = (None, *tables.scenario.shift_types)
+    rows = {
+        nurse: known[nurse] if nurse in known and known[nurse].last_shift in types else row
+        for nurse, row in tables.history.nurses.items()
+    }
+    return replace(tables.history, nurses=rows)
 
 
 def _with_contracts(book: Book) -> Book:

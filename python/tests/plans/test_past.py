@@ -228,6 +228,24 @@ class OlderVersion(PastTest):
         self.does("over", "Chen", "13.12.", "off")
         self.assertIsNone(self.verbs().current().past.nurses["Chen"].last_shift)
 
+    def test_its_last_week_is_as_planned_and_never_said_to_be_worked(self):
+        self.plan_next()
+        self.does("page")
+        with open(self.ward / "tables" / "worked.csv", encoding="utf-8") as file:
+            days = {line.split(",")[1] for line in file}
+        last = str(MONDAY + datetime.timedelta(days=6))
+        self.assertEqual(max(days - {"date"}), last)
+
+    def test_a_plan_that_the_older_version_has_taken_back(self):
+        self.plan_next()
+        name = self.last().name
+        (self.ward / "plans" / "undone").mkdir(exist_ok=True)
+        self.last().rename(self.ward / "plans" / "undone" / name)
+        printed = run("plan", self.ward, "check")[1]
+        self.assertIn(f"warning: plans/undone/{name} was taken back, perhaps by an older", printed)
+        (self.ward / "plans" / "undone" / name).rename(self.ward / "plans" / name)
+        self.assertNotIn("older version", run("plan", self.ward, "check")[1])
+
     def test_a_plan_of_now_is_no_plan_of_it(self):
         # The older version refuses a record with a name that it does not know.
         self.plan_next()

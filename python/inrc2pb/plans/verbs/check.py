@@ -36,6 +36,8 @@ class Checked(Outcome):
     anew: tuple[WeekRow, ...] = ()
     # Nurses who may have another name now.
     strangers: Strangers = Strangers()
+    # Plans that an older version may have taken back.
+    undone: tuple[str, ...] = ()
     # What is odd in the days of later periods.
     later: tuple[str, ...] = ()
 
@@ -44,7 +46,7 @@ class Checked(Outcome):
         sentences."""
         plan = self.plan
         said = [
-            *warning_lines(plan, self.other_pages, self.anew, self.strangers),
+            *warning_lines(plan, self.other_pages, self.anew, self.strangers, self.undone),
             *self.later,
             *(
                 f"warning: {line}"
@@ -78,6 +80,7 @@ def _done(store: PlanStore, _event: Event) -> Checked:
         store.other_pages(),
         store.anew(plan),
         store.strangers(plan),
+        store.undone_by_older(),
         tuple(line for other in later for line in warning_lines(other) if line not in known),
         status=status,
     )
