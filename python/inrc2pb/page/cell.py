@@ -16,7 +16,7 @@ from ..shown.why import charge_text
 from ..week.dates import day_names
 from ..week.records import WEEK_DAYS, Cell, NurseDay, Place
 from ..week.words import OFF, readable
-from .forms import STAMP, button_markup
+from .forms import STAMP, button_markup, sending
 
 
 # The place of the page that shows a nurse's day, so that the keyboard goes on from there.
@@ -213,30 +213,13 @@ class Actions:
             "first": self._first,
             STAMP: self._stamp,
         }
-        hidden = [
-            element("input", type="hidden", name=name, value=value)
-            for name, value in fields.items()
-        ]
         words = ("ill", *(word for word in AWAY if word != "ill"))
         buttons = [
             joined(element("button", word, name="reason", value=word), " ") for word in words
         ]
         select = element("select", *options, name="last", aria_label="last day")
-        return _group(
-            "She is away",
-            [
-                element(
-                    "form",
-                    *hidden,
-                    select,
-                    " ",
-                    *buttons,
-                    method="post",
-                    action=self._address,
-                    class_="words",
-                )
-            ],
-        )
+        form = sending(fields, self._address, select, " ", *buttons, class_="words")
+        return _group("She is away", [form])
 
     def _back(self) -> Markup | None:
         """What was written for this day is taken back: an absence, a day that was set, or a

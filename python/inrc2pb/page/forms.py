@@ -155,7 +155,7 @@ def form_markup(
     """A form of the page, with the stamp of the plan, these values in its fields, and this time of
     a search. Nothing is chosen beforehand. One with fields is folded, unless it was refused; one
     without needs no plan."""
-    hidden = [element("input", type="hidden", name=STAMP, value=stamp)] if form.writes else []
+    hidden = {STAMP: stamp} if form.writes else {}
     usual = seconds or (
         WEEK_SECONDS * len(plan.weeks) if plan and form.verb == "plan" else CHANGE_SECONDS
     )
@@ -164,9 +164,7 @@ def form_markup(
     text = (
         f"{form.text}; writes {form.writes}" if form.writes and form.verb != "swap" else form.text
     )
-    inside = element(
-        "form", *hidden, *fields, button, " ", element("small", text), method="post", action=address
-    )
+    inside = sending(hidden, address, *fields, button, " ", element("small", text))
     is_open = "" if kept or (form.verb == "plan" and plan and not plan.is_planned) else None
     return (
         element("details", element("summary", form.heading), inside, open=is_open)
@@ -181,25 +179,14 @@ def sure_markup(
     """The question before a verb writes, with these lines, for what the folder has. Without a plan,
     which the spreadsheet may not give now, it is undo."""
     form = _BY_VERB[fields["verb"]]
-    hidden = [
-        element("input", type="hidden", name=name, value=value)
-        for name, value in {**fields, SURE: "yes", SEEN: seen}.items()
-    ]
-    yes = element("button", "Yes, write it")
     parts = [element("h2", f"{_question(form, fields, plan)}?")]
     if lines:
         parts.append(element("pre", "\n".join(lines)))
     way_back = "" if form.verb == "undo" else " Undo takes it back."
     parts.append(element("p", f"This writes {form.writes}.{way_back}"))
-    answers = element(
-        "form",
-        *hidden,
-        yes,
-        " ",
-        element("a", "No", href=f"{address}?no"),
-        method="post",
-        action=address,
-    )
+    yes = element("button", "Yes, write it")
+    no = element("a", "No", href=f"{address}?no")
+    answers = sending({**fields, SURE: "yes", SEEN: seen}, address, yes, " ", no)
     # The question has the focus, and not its answer, so that nobody writes unread.
     return element("section", *parts, answers, tabindex="-1", autofocus="")
 
@@ -235,10 +222,15 @@ def _shown(plan: WardPlan, value: str) -> str:
 
 def button_markup(fields: Fields, text: str, address: str) -> Markup:
     """A button with this text that sends these fields."""
-    hidden = [
+    return sending(fields, address, element("button", text))
+
+
+def sending(fields: Fields, address: str, *inside: str, class_: str | None = None) -> Markup:
+    """A form with these parts that sends these fields, too."""
+    hidden = (
         element("input", type="hidden", name=name, value=value) for name, value in fields.items()
-    ]
-    return element("form", *hidden, element("button", text), method="post", action=address)
+    )
+    return element("form", *hidden, *inside, method="post", action=address, class_=class_)
 
 
 def _field(name: str, plan: WardPlan, kept: str, seconds: float) -> Markup:

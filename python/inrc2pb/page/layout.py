@@ -20,7 +20,7 @@ from ..shown.roster_table import RosterTable
 from ..week.records import WEEK_DAYS, NurseDay
 from ..week.words import readable
 from .cell import Actions, cell_address
-from .forms import FORMS, STAMP, STYLE, button_markup, form_markup, sure_markup
+from .forms import FORMS, STAMP, STYLE, button_markup, form_markup, sure_markup, sending
 from .jobs import Done, Fields, Said
 
 REFRESH_SECONDS = 2
@@ -247,12 +247,7 @@ def _lines(lines: Sequence[str], is_fault: bool) -> list[Markup]:
 def _said(said: Said, shown: Shown, address: str) -> list[Markup]:
     """The lines of the last verb, and a button that stops it, that takes back what it wrote, or
     that writes that of which it tells."""
-    stop = element(
-        "form",
-        element("button", "Stop, and keep the best plan", name="verb", value="stop"),
-        method="post",
-        action=address,
-    )
+    stop = sending({"verb": "stop"}, address, element("button", "Stop, and keep the best plan"))
     outcome = said.outcome
     is_look = isinstance(outcome, Swapped) and not outcome.is_written and not outcome.faults
     words = {name: value for name, value in shown.kept.items() if value}
