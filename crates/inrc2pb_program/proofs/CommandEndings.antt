@@ -1,5 +1,5 @@
 -- A command ends by what lies in the files at the paths of its job.
-use Rattle.std.proofs.Common.{◌≡◌, ◌∙◌, ℕ, ap, refl, sym, subst, List, Result, Ok, Err}
+use Rattle.std.proofs.Common.{◌≡◌, ◌∙◌, ℕ, ap, refl, sym, subst, inl, inr, List, Result, Ok, Err}
 use Rattle.std.specs.Prelude.{◌≢◌, Option, Some, None, option_map, string_bytes}
 use Rattle.std.specs.Option.{option_map_or}
 use Rattle.std.specs.declared.string.String.{String}
@@ -40,16 +40,12 @@ use Rattle.inrc2pb_program.proofs.WeekShows.{writes-extension, writes-model, wri
 
 -- a file that only got a path is unwritten
 pub unwritten_placed : (file : JobFile) (to : Option Path) (placed : file.State) → IsPlaced file.port file.old to placed → file.new ≡ placed →
-    IsUnwritten file
-unwritten_placed file to placed is same = record {
-  path = refl;
+    IsUnwritten to file
+unwritten_placed file to placed is same = inr (record {
+  path = ap file.port.path same ∙ is.path;
   sound = ap file.port.target.has_failed same ∙ is.sound;
   unwritten = ap file.port.target.sent same ∙ is.unwritten;
-}
-
-pub unwritten_untouched : (file : JobFile) → IsUntouched file → IsUnwritten file
-unwritten_untouched file same =
-    record { path = refl; sound = ap file.port.target.has_failed same; unwritten = ap file.port.target.sent same }
+})
 
 -- the input tells its content, if this is known
 pub input_tells : (input : Reader) → IsKnown (content_left input) → Tells (content_left input) input
@@ -192,24 +188,25 @@ module _ {F : Type 0} (opener : Opener F) (file : JobFile) (input : Reader) (out
         done.at_its_path done.outcome.1 done.outcome.0
 
   module _ {X Z : Type 0} (words : Given X Z) (stop : Stop) (why : IsStopGiven (IsStopFor inrc2pb) words stop) (other : status ≢ 2)
-      (exits : Exits help errors status (Err stop)) (nothing : AreUnwritten file output) where
+      (exits : Exits help errors status (Err stop)) (nothing : (to : Option Path) → AreUnwritten to file output) where
     ends_before : (job : Job) → IsJobGiven (IsJobFor inrc2pb) words job → EndsJob job
     ends_before (Encode inputs opb) spelled =
         ends_stopped inrc2pb.app.top.name help errors status (model_in opener.at inputs) Run (text_written file output (option_map string_bytes opb))
-        inrc2pb words (Encode inputs opb) spelled stop why nothing other exits
+        inrc2pb words (Encode inputs opb) spelled stop why (nothing (option_map string_bytes opb)) other exits
     ends_before (Decode inputs sol answer) spelled =
         ends_stopped inrc2pb.app.top.name help errors status (solution_in opener.at inputs (answer_at opener.at (content_left input) answer)) Run
-        (solution_written file output (string_bytes sol)) inrc2pb words (Decode inputs sol answer) spelled stop why nothing other exits
+        (solution_written file output (string_bytes sol)) inrc2pb words (Decode inputs sol answer) spelled stop why
+        (nothing (Some (string_bytes sol))) other exits
     ends_before (Extend inputs from) spelled =
         ends_stopped inrc2pb.app.top.name help errors status (extension_in opener.at inputs from) Run (text_written file output None)
-        inrc2pb words (Extend inputs from) spelled stop why nothing other exits
+        inrc2pb words (Extend inputs from) spelled stop why (nothing None) other exits
 
   pub follows : {X Z : Type 0} (words : Given X Z) → CommandFollowsFromFiles opener file words input output help errors status
   follows words reads job spelled known other (ended, stopped stop is why idle, exits) = record {
     job = job;
     spelled = spelled;
     ends = ends_before words stop why other (subst (Exits help errors status) is exits)
-        (record { file = unwritten_untouched file idle.file; output = idle.output }) job spelled;
+        (λ to. record { file = inl idle.file; output = idle.output }) job spelled;
   }
   follows words reads job spelled known other (ended, performed named is done, exits) = record {
     job = named;

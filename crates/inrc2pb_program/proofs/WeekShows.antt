@@ -5,7 +5,6 @@ use Rattle.std.specs.declared.string.String.{String}
 use Rattle.byte_ports.specs.declared.ports.Source.{Ghosts}
 use Rattle.rota_core.specs.InstanceTables.{InstanceTables, IsInstance, holding, problem_of}
 use Rattle.rota_core.specs.Problem.{Problem}
-use Rattle.rota_core.specs.Roster.{Roster}
 use Rattle.rota_core.specs.RosterTables.{RosterTables, set_of}
 use Rattle.rota_core.specs.Sizes.{Numbers}
 use Rattle.rota_core.specs.declared.fault.FileName.TheVariants as names
@@ -19,7 +18,7 @@ use Rattle.rota_pb.specs.AnswerPieces.{FailsAnswer, read_answer}
 use Rattle.rota_pb.specs.Decoded.{IsDecoded, LacksRoster}
 use Rattle.rota_pb.specs.Decoding.{decode_run, variables_of}
 use Rattle.rota_pb.specs.Encoding.{IsModelText, encode_run}
-use Rattle.rota_pb.specs.Extending.{BreaksRule, extend_run, extension_text}
+use Rattle.rota_pb.specs.Extending.{extend_run, extension_text}
 use Rattle.rota_pb.specs.Report.{report_text}
 use Rattle.rota_pb.specs.RunPorts.{IsUntouched, Reader, Writer, WritesBeginning, WritesText, reader_of}
 use Rattle.rota_pb.specs.Steps.{EndsInTurn, Step, ◌>>=◌, find, only_if_asked, send, stopped, went_on}
@@ -34,7 +33,7 @@ use Rattle.inrc2pb_program.specs.OpenInputs.{OpenInputs, optional_port, readers_
 use Rattle.byte_ports.specs.Paths.{FileAt, Path}
 use Rattle.inrc2pb_program.specs.declared.optional_file.OptionalFile.{OptionalFile}
 use Rattle.inrc2pb_program.specs.declared.optional_file.OptionalFile.TheVariants.{Named, Absent}
-use Rattle.inrc2pb_frame.proofs.FilesShown.{shows-roster, shows-spelled, told}
+use Rattle.inrc2pb_frame.proofs.FilesShown.{breaks-about, shows-roster, shows-spelled, told}
 use Rattle.byte_ports.proofs.OpenedFiles.{IsNewAt}
 use Rattle.inrc2pb_frame.proofs.Shows.{Shows, Tells, Writes, about, contents, lies, shows-find, shows-same, shows-then, writes-last, writes-then, writing}
 use Rattle.inrc2pb_program.specs.CommandEnds.{BeginsBoth}
@@ -87,16 +86,6 @@ lacks-unwritten problem solved Write of lacks = lacks
 lacks-unwritten problem solved Read of lacks = lacks
 lacks-unwritten problem solved (Answer one) of lacks = lacks
 lacks-unwritten problem solved (Breaks rule) of lacks = lacks
-
-breaks-unwritten : (problem : Problem) (roster : Roster) (fault : Fault) → about fault ≡ writing → BreaksRule problem roster fault → ⊥
-breaks-unwritten problem roster (Breaks rule) of breaks = cc of
-breaks-unwritten problem roster (NoRoster status) of breaks = breaks
-breaks-unwritten problem roster (Unmet number) of breaks = breaks
-breaks-unwritten problem roster (File one) of breaks = breaks
-breaks-unwritten problem roster Memory of breaks = breaks
-breaks-unwritten problem roster Write of breaks = breaks
-breaks-unwritten problem roster Read of breaks = breaks
-breaks-unwritten problem roster (Answer one) of breaks = breaks
 
 module _ (variables : ℕ) (content : FileAt) (reader : Reader) (told : Tells content reader) where
   answer-refused : (fault : Fault) → about fault ≡ contents → FailsAnswer variables reader fault → HasAnswerFaultIn variables content fault
@@ -236,5 +225,5 @@ module _ {F : Type 0} (port : Ghosts F) (at : Path → FileAt) (known : (path : 
     writes-extension from given left new_roster out =
         writes-then about shows-week some_tables (λ tables.
         writes-then about (shows-roster (told port at known from given left new_roster) names.Solution tables) some_roster (λ roster.
-        writes-then about (shows-same about _ _ (breaks-unwritten (problem_of tables) (set_of roster))) tt (λ _.
+        writes-then about (shows-same about _ _ (λ fault of breaks. cc (of, breaks-about (problem_of tables) (set_of roster) fault breaks))) tt (λ _.
         writes-text out (extension_text (problem_of tables) (set_of roster)))))

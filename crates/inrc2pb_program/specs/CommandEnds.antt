@@ -20,30 +20,30 @@ pub record IsPlacedAnd (file : JobFile) (to : Path) (IsWritten : Writer → Type
   pub at_its_path : IsPlaced file.port file.old (Some to) placed
   pub written : IsWritten (writer_of file.port.target placed file.new)
 
--- nothing was written to the file
-abbrev pub IsUnwritten : JobFile → Type 0
-IsUnwritten file = IsPlaced file.port file.old (file.port.path file.new) file.new
+-- nothing was written to the file: it was not touched, or only got this path
+abbrev pub IsUnwritten : Option Path → JobFile → Type 0
+IsUnwritten to file = IsUntouched file ⊎ IsPlaced file.port file.old to file.new
 
 -- the first of two texts was written in part, or the second one after it
 abbrev pub BeginsBoth : Writer → Writer → List ℕ × List ℕ → Type 0
 BeginsBoth first second texts =
     (WritesBeginning first texts.0 × IsUntouched second) ⊎ (WritesText first texts.0 × WritesBeginning second texts.1)
 
--- nothing was written to the file, nor to the output
-pub record AreUnwritten (job_file : JobFile) (writer : Writer) : Type 0 where
-  pub file : IsUnwritten job_file
+-- nothing was written to the file, which may have got this path, nor to the output
+pub record AreUnwritten (to : Option Path) (job_file : JobFile) (writer : Writer) : Type 0 where
+  pub file : IsUnwritten to job_file
   pub output : IsUntouched writer
 
 module _ (file : JobFile) (output : Writer) where
   -- the file at the path was written so if one is named, otherwise the output, and nothing was written to the other
   abbrev pub GoesTo : Option Path → (Writer → Type 0) → Type 0
-  GoesTo None IsWritten = IsWritten output × IsUnwritten file
+  GoesTo None IsWritten = IsWritten output × IsUnwritten None file
   GoesTo (Some to) IsWritten = IsPlacedAnd file to IsWritten × IsUntouched output
 
   -- a text, in the file at the path if one is named, otherwise on the output
   abbrev pub text_written : Option Path → Written (List ℕ)
   text_written to = record {
-    nothing = AreUnwritten file output;
+    nothing = AreUnwritten to file output;
     all = λ text. GoesTo to (λ out. WritesText out text);
     beginning = λ text. GoesTo to (λ out. WritesBeginning out text);
   }
@@ -51,7 +51,7 @@ module _ (file : JobFile) (output : Writer) where
   -- a solution file at the path, and then the report on the output
   abbrev pub solution_written : Path → Written (List ℕ × List ℕ)
   solution_written to = record {
-    nothing = AreUnwritten file output;
+    nothing = AreUnwritten (Some to) file output;
     all = λ texts. IsPlacedAnd file to (λ sol. WritesText sol texts.0 × WritesText output texts.1);
     beginning = λ texts. IsPlacedAnd file to (λ sol. BeginsBoth sol output texts);
   }
