@@ -31,7 +31,8 @@ class Corrections(NamedTuple):
 
     def with_open(self, open_week: int) -> WardPlan:
         """The plan with them, whose first weeks are over."""
-        state = replace(self.new.state, open_week=open_week)
+        # What is known of other plans was of these weeks as they were planned.
+        state = replace(self.new.state, open_week=open_week, least=None)
         new = plan_of(self.new.ward, state.keeping(lambda place: place.day >= state.first))
         return worked_open(new)
 

@@ -32,6 +32,10 @@ from .ward import BeforeAndAfter, WardPlan, for_leavers
 
 UNKNOWN_BOUND = "how much less another plan can cost is not known"
 
+OF_OLDER_SHEET = (
+    "the spreadsheet was saved during the search, so this plan is not written: ask for it again"
+)
+
 
 class Cause(Protocol):
     """What a user has asked for, if a plan with few changes is searched for that has it."""
@@ -64,6 +68,8 @@ class Planned(Outcome):
     verb: str = ""
     # Whether the user looks at it before it is written.
     is_look: bool = False
+    # Whether the spreadsheet was saved during the search.
+    is_of_older_sheet: bool = False
     ended_by: int | None = None
     # The plan of the next period, before and after this one; None if there is none.
     following: BeforeAndAfter = (None, None)
@@ -105,6 +111,8 @@ class Planned(Outcome):
             said.append("stopped: this is the best plan until then")
         if self.is_look:
             return [*said, f"nothing is written: {write}"] if write else said
+        if self.is_of_older_sheet:
+            return [*said, OF_OLDER_SHEET]
         if not self.is_written:
             return [*said, *days_away_lines(new), not_written_text(write)]
         if missing:

@@ -71,6 +71,7 @@ def searched(
 ) -> Outcome:
     """Searches, and writes the plan. The `cause` has the plan without what it asks for."""
     say(store, search_lines(old, asked, store.means.end))
+    sheet = store.folder.seen
     asked = asked._replace(call_points=_call_points(cause.old if cause else old))
     store.means.progress.counts_changes = asked.few_changes and old.is_planned
     # A second Ctrl-C does not end it before the plan is written.
@@ -123,6 +124,8 @@ def searched(
             return replace(planned, status=Status.NOT_KEPT)
         if event.look:
             return replace(planned, is_look=True)
+        if store.folder.seen != sheet:
+            return replace(planned, status=Status.NOT_KEPT, is_of_older_sheet=True)
         return saved(planned, store.save(verb, new, event.typed))
 
 

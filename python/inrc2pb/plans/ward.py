@@ -286,6 +286,9 @@ def continued(ward: Ward, state: State, past: History | None = None) -> WardPlan
     check_days(ward.days, named.days)
     check_names(ward, [cell for cell in named.cells if cell.day < named.first])
     known = past.nurses if past else {}
+    if any(row != named.start.nurses.get(nurse, row) for nurse, row in known.items()):
+        # The period before it was corrected, so no bound of older plans holds.
+        named = replace(named, least=None)
     start = _start(ward, replace(named.start, nurses={**named.start.nurses, **known}))
     _check_last_shifts(ward, start)
     unknown = tuple(cell for cell in named.cells if not ward.knows(cell))

@@ -4,6 +4,7 @@ import datetime
 import re
 import shutil
 import unittest
+from dataclasses import replace
 
 from test_next_period import PeriodTest
 from test_past import today_is
@@ -41,9 +42,10 @@ class CalendarTest(PeriodTest):
         ]
         self.write()
 
-    def plan_january(self, cells=TWO_WEEKS):
+    def plan_january(self, cells=TWO_WEEKS, least=None):
         """Writes a plan of the next period, which has these cells."""
         plan = self.reader().of_dates([str(NEXT)], plans=False).current().with_cells(cells)
+        plan = plan.with_state(replace(plan.state, least=least))
         now = datetime.datetime(2026, 12, 1, 12, 0)
         WardFolder(self.ward).add("plan", plan_texts(plan, plan.state.record("plan", now)), now)
 
@@ -201,11 +203,15 @@ class NextBeforeTheEnd(CalendarTest):
         self.assertEqual(read_state(self.last()).open_week, 1)
 
     def test_a_correction_of_december_reaches_january(self):
-        self.plan_january()
+        self.plan_january(least=0)
         self.does("over")
         self.does("over")
+        self.assertEqual(self.reader().current().state.least, 0)
         self.does("over", "Chen", "13.12.", "off")
-        self.assertIsNone(self.reader().current().past.nurses["Chen"].last_shift)
+        plan = self.reader().current()
+        self.assertIsNone(plan.past.nurses["Chen"].last_shift)
+        # No bound of plans after the older past holds any more.
+        self.assertIsNone(plan.state.least)
 
     def test_needs_of_a_week_are_of_one_period(self):
         row = ["", "Day", "Nurse", *[""] * 4, "1", "", ""]

@@ -13,7 +13,7 @@ from ward import HAS_CBC, run
 from inrc2pb.plans import planning
 from inrc2pb.plans.left_open import filled, left_open, with_fewer_open, without_away
 from inrc2pb.plans.plan_files import read_record, read_state
-from inrc2pb.plans.planned import bound_text
+from inrc2pb.plans.planned import OF_OLDER_SHEET, bound_text
 from inrc2pb.plans.searching import KnownBound
 from inrc2pb.programs.program import NO_ROSTER
 from inrc2pb.search.bounds import PROVER, Bound
@@ -201,6 +201,27 @@ class Searches(OpenTest):
         printed = self.opens("plan")
         self.assertIn("missing\n", printed)
         self.assertIn((0, "Night", "Nurse"), [one[:3] for one in self.opened()])
+
+
+@unittest.skipUnless(HAS_CBC, "cbc is not installed")
+class SavedMeanwhile(OpenTest):
+    def test_a_plan_that_was_found_before_the_sheet_was_saved_is_not_written(self):
+        search = planning.search_plan
+
+        def saves(*words):
+            found = search(*words)
+            self.rows["plan"][7][5] = "leave"
+            self.write()
+            return found
+
+        plans = len(self.texts())
+        with mock.patch.object(planning, "search_plan", saves):
+            status, printed, _ = self.runs("ill", "Chen", "Tue")
+        self.assertEqual(status, 6, printed)
+        self.assertIn(f"{OF_OLDER_SHEET}\n", printed)
+        self.assertEqual(len(self.texts()), plans)
+        self.does("ill", "Chen", "Tue")
+        self.assertNotIn(("Grace", 4), self.cells())
 
 
 class PageOpen(ServedPage):
