@@ -4,18 +4,15 @@ is kept."""
 import datetime
 import io
 import threading
-from pathlib import Path
 from typing import Mapping, NamedTuple
 
 from ..plans.planned import Planned
-from ..plans.plan_files import known_record
 from ..plans.store import Means
-from ..plans.table import Verbs
-from ..plans.state import Record
-from ..plans.verb import FROM, ON_PAGE, Event, Outcome
+from ..plans.table import Done, Verbs
+from ..plans.verb import Event, Outcome
 from ..plans.verbs.over import WeekOver
 from ..plans.verbs.undo import Undone
-from ..plans.ward_folder import WardFolder, place_of
+from ..plans.ward_folder import WardFolder
 from ..plans.words import PeriodOver
 from ..programs.interrupts import Interrupts
 from ..programs.progress import WardProgress
@@ -28,13 +25,6 @@ _WRITE = "the button below writes it"
 
 # The most verbs that a page lists.
 MOST_LISTED = 30
-
-
-class Done(NamedTuple):
-    """What a verb has done, and whether that holds, or was taken back."""
-
-    text: str
-    holds: bool = True
 
 
 class Changed(Misuse):
@@ -142,19 +132,11 @@ class Jobs:
 
     def made(self) -> str:
         """Which verb has made the plan that holds, when, and who asked for it, if that is known."""
-        last = self.folder.last()
-        record = known_record(last) if last else None
-        if not record:
-            return ""
-        is_typed = record.time >= self._began and not _is_of_page(record)
-        return f"{record.made}{', at a terminal' if is_typed else ''}"
+        return self.verbs().made(self._began)
 
     def history(self) -> list[Done]:
-        """What the last verbs have done, the last one first, when, and where each was asked for: at
-        a terminal, or on the page, which says from which address."""
-        undone = self.folder.undone()
-        plans = sorted([*self.folder.all_plans(), *undone], key=place_of, reverse=True)
-        return [Done(_done_text(plan), holds=plan not in undone) for plan in plans[:MOST_LISTED]]
+        """What the last verbs have done, the last one first."""
+        return self.verbs().history(MOST_LISTED)
 
     def check_stamp(self, stamp: str) -> None:
         """Raises Changed if the plan that holds has another stamp."""
@@ -233,19 +215,6 @@ class Jobs:
         """Waits for the end of the event that is done."""
         if self._thread:
             self._thread.join()
-
-
-def _done_text(plan: Path) -> str:
-    """The verb that has made a plan, its time, and where it was asked for."""
-    record = known_record(plan)
-    if record is None:
-        return f"{plan.name}, which is damaged"
-    return f"{record.made}{'' if _is_of_page(record) else ', at a terminal'}"
-
-
-def _is_of_page(record: Record) -> bool:
-    """Whether a plan was asked for on the page."""
-    return ON_PAGE in record.typed or FROM in record.typed
 
 
 def fault_lines(fault: Exception) -> list[str]:

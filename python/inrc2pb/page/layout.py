@@ -10,6 +10,7 @@ from ..plans.absence import Away
 from ..plans.pages import CALENDARS, roster_content
 from ..plans.planned import Planned
 from ..plans.state import Swap
+from ..plans.table import Done
 from ..plans.verbs.over import WeekOver
 from ..plans.verbs.swap import Swapped
 from ..plans.ward import WardPlan
@@ -21,7 +22,7 @@ from ..week.records import WEEK_DAYS, NurseDay
 from ..week.words import readable
 from .cell import Actions, cell_address
 from .forms import FORMS, STAMP, STYLE, button_markup, form_markup, sure_markup, sending
-from .jobs import Done, Fields, Said
+from .jobs import Fields, Said
 
 REFRESH_SECONDS = 2
 _FORMS = "forms"

@@ -1,16 +1,20 @@
 """The verbs of a ward's folder: all that the terminal and the page can ask for."""
 
+import datetime
 from dataclasses import replace
+from pathlib import Path
+from typing import NamedTuple
 
 from ..week.dates import PlanDays
 from ..week.records import NurseDay
+from .plan_files import known_record
 from .planned import Planned
 from .store import Means, PlanStore
-from .state import Swap
-from .verb import Event, Outcome, Verb, saved
+from .state import Record, Swap
+from .verb import FROM, ON_PAGE, Event, Outcome, Verb, saved
 from .verbs import away, back, check, over, page, plan, set_day, swap, undo
 from .ward import WardPlan
-from .ward_folder import WardFolder
+from .ward_folder import WardFolder, place_of
 
 # In the order of the help and of the page.
 VERBS: tuple[Verb, ...] = (
@@ -26,6 +30,13 @@ VERBS: tuple[Verb, ...] = (
 )
 CHECK, PLAN, OVER, UNDO = (verb.VERB.names[0] for verb in (check, plan, over, undo))
 BY_NAME = {name: verb for verb in VERBS for name in verb.names}
+
+
+class Done(NamedTuple):
+    """What a verb has done, and whether that holds, or was taken back."""
+
+    text: str
+    holds: bool = True
 
 
 class Verbs:
@@ -55,6 +66,23 @@ class Verbs:
         """The last swap that was written for a nurse's day, if the plan keeps it."""
         return swap.agreed_swap(self._store, now, place)
 
+    def made(self, since: datetime.datetime) -> str:
+        """Which verb has made the plan that holds, when, and, if that was since then, whether it
+        was typed at a terminal; nothing if that is not known."""
+        last = self._store.folder.last()
+        record = known_record(last) if last else None
+        if not record:
+            return ""
+        return f"{record.made}{_where(record) if record.time >= since else ''}"
+
+    def history(self, most: int) -> list[Done]:
+        """What the last verbs have done, the last one first, when, and where each was asked for: at
+        a terminal, or on the page, which says from which address."""
+        folder = self._store.folder
+        undone = folder.undone()
+        plans = sorted([*folder.all_plans(), *undone], key=place_of, reverse=True)
+        return [Done(_done_text(plan), holds=plan not in undone) for plan in plans[:most]]
+
     def asked(self, event: Event) -> Outcome | None:
         """What comes of an event before anything is searched or written, as far as that is known.
         Raises Misuse if what is asked for cannot be."""
@@ -76,3 +104,15 @@ class Verbs:
             replace(planned, is_look=False),
             self._store.save(planned.verb, planned.plan, event.typed),
         )
+
+
+def _done_text(plan: Path) -> str:
+    """The verb that has made a plan, its time, and where it was asked for."""
+    record = known_record(plan)
+    return f"{record.made}{_where(record)}" if record else f"{plan.name}, which is damaged"
+
+
+def _where(record: Record) -> str:
+    """That a plan was asked for at a terminal, if it was."""
+    is_of_page = ON_PAGE in record.typed or FROM in record.typed
+    return "" if is_of_page else ", at a terminal"
