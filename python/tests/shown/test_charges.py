@@ -33,7 +33,7 @@ import random_weeks  # noqa: E402
 
 FIVE = ROOT / "examples" / "n005w4"
 FIVE_FILES = program.WeekFiles(FIVE / "ward.txt", FIVE / "history-0.txt", FIVE / "week-0.txt")
-LINE = re.compile(r" *([0-9]+)  (S[1-7])  (.+)")
+LINE = re.compile(r" *([0-9]+)  (S\d+)  (.+)")
 
 
 def sums(printed):
