@@ -33,7 +33,7 @@ class Mouse(BrowserTest):
             "The week is over: ", "week 1 .calendar week 49. is over: the plan goes on from "
         )
         self.button("Undo")
-        self.says_yes("this takes back: over, ", "undone: over, ")
+        self.says_yes("this takes back: over .on the page., ", "undone: over .on the page., ")
         self.assertEqual(self.plans(), ["plan", "page", "set", "ill", "swap"])
         print(
             f"{type(self).__name__}: {self.clicks} clicks or keys Enter, {self.stops} stops of the"
