@@ -12,4 +12,5 @@ returns g c =
       rules,
       keeps_sent _ c.finish.new.self
           (c.finish.ensures.finishes.takes.same_before ∙ c.put_answer.ensures.takes.same_before ∙ c.new-sink.ensures.before),
+      c.finish.ensures.finishes.takes.same_target ∙ c.put_answer.ensures.takes.same_target ∙ c.new-sink.ensures.same_target,
     )
