@@ -80,7 +80,11 @@ def employed(book: Book, days: Days) -> Employment:
             others = (stay for stay in rows if stay is not main and not stay.is_for_ever)
             gone["nurses"] += [stay.row.number for stay in others]
             if main:
-                without = set(range(total)).difference(*(range(*stay[1:]) for stay in here))
+                without = {
+                    day
+                    for day in range(total)
+                    if not any(stay.first <= day < stay.end for stay in here)
+                }
                 with faults.step():
                     _check_cells(in_plan.get(nurse), days, without)
                 name = main.row.of("nurse").text.replace(" ", "_")
