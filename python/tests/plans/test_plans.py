@@ -231,10 +231,15 @@ class FolderTest(HelperTest):
         self.rows = {name: [list(map(str, row)) for row in rows] for name, rows in EXAMPLE.items()}
         self.rows["plan"] = [["nurse", *DATES], *(row[:15] for row in self.rows["plan"][1:])]
         self.write()
-        # Other processors would find nothing else, and begin with loading the library.
-        alone = mock.patch.object(row_run, "processors", lambda: 1)
-        alone.start()
-        self.addCleanup(alone.stop)
+        # Other processors would find nothing else, and begin with loading the library. Nights and
+        # weekends are made more even by tests of their own.
+        for where, name, value in (
+            (row_run, "processors", lambda: 1),
+            (planning, "MOST_EVENING", 0.1),
+        ):
+            patch = mock.patch.object(where, name, value)
+            patch.start()
+            self.addCleanup(patch.stop)
 
     def write(self):
         """Writes the sheets."""
@@ -249,11 +254,9 @@ class FolderTest(HelperTest):
         return printed
 
     def runs(self, *words):
-        """The status of the verb, and what it prints. Its search has time enough, and a second to
-        make the plan more even."""
+        """The status of the verb, and what it prints. Its search has time enough."""
         searches = words[0] in ("plan", "ill", "leave", "away", "training", "back")
-        with mock.patch.object(planning, "EVENING_SHARE", 1 / ENOUGH):
-            return run("plan", self.ward, *words, *(("--time", ENOUGH) if searches else ()))
+        return run("plan", self.ward, *words, *(("--time", ENOUGH) if searches else ()))
 
     def begin(self):
         """Begins with a plan of both weeks, which the first test has made."""

@@ -128,6 +128,7 @@ class WithoutPlan(KeptTest):
             with (
                 self.subTest(verb),
                 mock.patch.object(planning, "search_plan", search),
+                mock.patch.object(planning, "MOST_EVENING", 8.0),
                 mock.patch.object(clock, "time", fake),
             ):
                 event = Event(verb, tuple(words), 10.0, look=True)
