@@ -455,7 +455,7 @@ class Verbs(FolderTest):
         self.assertEqual(status, 5, said)
         says = (
             "Lower these by 1 in all; no roster can do with less:\nSat 5 Dec Day Charge: lower 4 to"
-            " 3\n$"
+            " 3\nwith --open these shifts stay open\n$"
         )
         self.assertRegex(printed, f"^week 1 \\(calendar week 49\\): No roster .* {says}")
         self.assertFalse(list((self.ward / "plans").glob("0*")))
@@ -739,8 +739,8 @@ class Refused(FolderTest):
             ("a verb is missing after the folder: write one of new, check, plan, ",),
             ("'Chen' is a word too many: undo has none", "undo", "Chen"),
             (
-                "--do is for verbs that ask before they write: leave it out with page",
-                "page",
+                "--do is for verbs that ask before they write: leave it out with undo",
+                "undo",
                 "--do",
             ),
             ("--free is for plan: leave it out", "page", "--free"),
