@@ -162,7 +162,8 @@ class TwoPeriods(ServedPage):
                 asked = self.ended()
             if "Yes, write it" not in asked:
                 return ""
-            self.sends(**fields_of(asked, "Yes, write it"))
+            sure = fields_of(asked, "Yes, write it")
+            self.sends(**{name: html.unescape(value) for name, value in sure.items()})
             return asked
 
     def test_two_periods(self):
