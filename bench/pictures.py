@@ -38,7 +38,7 @@ MADE = datetime.date(2026, 11, 28)
 CLICKED = "nurse=Dilek&day=2"
 SECONDS = 20
 # The windows of the pictures.
-WINDOWS = {"sheet": "1240,215", "sheets": "890,590", "wall": "1230,390", "page": "1366,740"}
+WINDOWS = {"sheet": "1240,215", "sheets": "915,605", "wall": "1230,390", "page": "1366,740"}
 MOST_BYTES = 180_000
 STEP = 100
 PROGRESS = re.compile(r" *([\d.]+) s  penalty (\d+)(?:  bound (\d+))?")
