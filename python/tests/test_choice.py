@@ -122,6 +122,8 @@ class Commands(unittest.TestCase):
     def test_pages(self):
         (step,) = check.page_steps(["docs/words.md", "docs/wall.png", "man/inrc2pb.1"])
         self.assertEqual(step.words[-1], "docs/words.md")
+        (step,) = check.page_steps(["tests/pages/questions.txt"])
+        self.assertEqual(step.words, ["tests/pages/paths.py"])
 
     def test_pricing_in_c(self):
         *_, step = check.rows_steps([check.ROWS])

@@ -173,11 +173,13 @@ def test_step(tests: Choice) -> Step:
 
 
 def page_steps(changed: Sequence[str]) -> Iterator[Step]:
-    """The steps for the pages among the changed files."""
+    """The steps for the pages among the changed files, and for the lists of their paths."""
     pages = matching(changed, r"([A-Z]+|(docs|bench|certified|examples)/\w+)\.md")
     if pages:
         words = ["tests/pages/pages.sh", str(PROGRAM), *pages]
         yield Step(f"pages: {' '.join(pages)}", words, {"BOUND": str(BOUND)})
+    if matching(changed, r"tests/pages/(paths\.(py|txt)|questions\.txt)"):
+        yield Step("words and questions of the paths", ["tests/pages/paths.py"])
 
 
 def rows_steps(changed: Sequence[str]) -> Iterator[Step]:
