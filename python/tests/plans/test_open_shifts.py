@@ -2,6 +2,7 @@
 
 import unittest
 from unittest import mock
+from urllib.parse import urlencode
 
 from served_page import ServedPage
 from test_kept_plans import KeptTest
@@ -238,6 +239,22 @@ class PageOpen(ServedPage):
         page = self.sends(**fields_of(asked, "Yes, write it"))
         self.assertIn(f'<p class="open">{MISSING}</p>', page)
         self.assertEqual(read_state(self.last()).opened, (NIGHT,))
+
+    @unittest.skipUnless(HAS_CBC, "cbc is not installed")
+    def test_a_button_for_a_ward_that_lacks_nurses(self):
+        self.rows["needs"][4][3:] = [5, *[1] * 6]
+        self.write()
+        page = self.sends(verb="plan", seconds="20")
+        self.assertIn("with --open these shifts stay open", page)
+        form = fields_of(page, "Leave it open")
+        asked = self.asks("POST", form=urlencode(form))[1]
+        self.assertIn("Yes, write it", asked)
+        with mock.patch.object(planning, "EVENING_SHARE", 0.0):
+            page = self.sends(**fields_of(asked, "Yes, write it"))
+        self.assertRegex(
+            page, '<p class="open">[A-Z][a-z]+ Nurse, Mon 30 Nov: [0-9] nurses? missing'
+        )
+        self.assertTrue(read_state(self.last()).opened)
 
 
 if __name__ == "__main__":
