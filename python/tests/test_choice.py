@@ -97,10 +97,8 @@ class ChosenHere(unittest.TestCase):
     def test_changes_that_were_noticed(self):
         sources = choice.read_sources(ROOT)
         for changed, tests in (
-            (
-                "inrc2pb/plans/swaps.py",
-                ("plans/test_set_days", "plans/test_promises", "plans/test_outcomes"),
-            ),
+            ("inrc2pb/plans/swaps.py", ("plans/test_set_days", "plans/test_promises")),
+            ("inrc2pb/plans/state.py", ("plans/test_outcomes",)),
             ("inrc2pb/rows/cheapest_rows.c", ("rows/test_compiled",)),
             ("inrc2pb/commands/referee.py", ("search/test_solver_claims",)),
             ("tests/fake_solver.py", ("solvers/test_bad_solvers",)),
