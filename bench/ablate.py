@@ -53,7 +53,7 @@ PARTS: Dict[str, Sequence[Change]] = {
             "if False:",
         ),
     ),
-    "cases": (Change("row_run", "        if not self._splits:", "        if True:"),),
+    "cases": (Change("row_run", "if not self._splits or self._tree:", "if True:"),),
 }
 # Weeks by kind and seed, and periods by nurses, weeks, percentage of the demand and seed; the most
 # seconds of each.
