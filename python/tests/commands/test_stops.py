@@ -66,13 +66,18 @@ class StopTest(HelperTest):
         """The status, the output and the messages of a command that gets this signal so many
         seconds after it has begun with its library loaded."""
         with tempfile.TemporaryFile("w+") as printed, tempfile.TemporaryFile("w+") as said:
+            # A signal that comes before the copy takes signals waits until then: scripts that run
+            # beside others ignore Ctrl-C.
+            signal.pthread_sigmask(signal.SIG_BLOCK, SIGNALS)
             child = os.fork()
             if not child:
                 for each in SIGNALS:
                     signal.signal(each, signal.SIG_DFL)
+                signal.pthread_sigmask(signal.SIG_UNBLOCK, SIGNALS)
                 tempfile.tempdir = str(self.room)
                 with output_to(printed, said):
                     os._exit(status_of(command, words))
+            signal.pthread_sigmask(signal.SIG_UNBLOCK, SIGNALS)
             time.sleep(seconds)
             before = work(child)
             began = time.monotonic()
