@@ -5,7 +5,6 @@ from dataclasses import dataclass, replace
 from pathlib import Path
 from typing import Callable, Sequence
 
-from ..judging.breaches import read_held
 from ..judging.limits import read_given, with_given
 from ..programs.clock import Clock
 from ..programs.inputs import Inputs
@@ -207,8 +206,3 @@ def read_week_given(files: WeekFiles) -> Week:
         return week
     claims = read_given(files.given, week.scenario)
     return replace(week, data=with_given(week.scenario, week.data, claims, week.history.week))
-
-
-def held_rows(fix: Path, week: Week, warn: Callable[[str], None]) -> Sequence[Cell]:
-    """The rows of the fix file. `warn` gets a line if it is of another ward or week."""
-    return read_held(fix, week.scenario, week.history, lambda hint: warn(f"{fix}: {hint}")).cells
