@@ -4,8 +4,6 @@ use Rattle.std.specs.Prelude.{⊤, ◌⊎◌, Bool, true, false, Option, Some, N
 use Rattle.std.specs.declared.string.String.{String}
 use Rattle.byte_ports.specs.declared.ports.Source.{Ghosts}
 use Rattle.rota_core.specs.InstanceTables.{InstanceTables, IsInstance, holding, problem_of}
-use Rattle.rota_core.specs.Problem.{Problem}
-use Rattle.rota_core.specs.Roster.{Roster}
 use Rattle.rota_core.specs.RosterTables.{RosterTables, set_of}
 use Rattle.rota_core.specs.ScenarioTables.{ScenarioTables}
 use Rattle.rota_core.specs.Trees.{leaf_tree}
@@ -23,13 +21,12 @@ use Rattle.rota_pb.specs.PeriodFaults.{fault_in_week}
 use Rattle.rota_pb.specs.RunPorts.{IsUntouched, Writer, WritesBeginning, WritesText, reader_of}
 use Rattle.rota_pb.specs.Steps.{EndsInTurn, Step, StepOf, ◌>>=◌, check, stopped, went_on}
 use Rattle.rota_pb.specs.declared.fault.Fault.{Fault}
-use Rattle.rota_pb.specs.declared.fault.Fault.TheVariants.{Answer, Breaks, File, Memory, NoRoster, Read, Write}
-use Rattle.rota_pb.specs.declared.fault.Fault.TheVariants as one_fault
+use Rattle.rota_pb.specs.declared.fault.Fault.TheVariants.{Memory, Write}
 use Rattle.rota_pb.specs.declared.period_fault.PeriodFault.{PeriodFault}
 use Rattle.rota_pb.specs.declared.period_fault.PeriodFault.TheVariants.{InWeek, Run, Unmet}
 use Rattle.inrc2pb_frame.specs.Contents.{IsKnown, content_of, held_in}
 use Rattle.byte_ports.specs.Paths.{FileAt, Path}
-use Rattle.inrc2pb_frame.proofs.FilesShown.{shows-roster, shows-spelled, told}
+use Rattle.inrc2pb_frame.proofs.FilesShown.{breaks-about, shows-roster, shows-spelled, told}
 use Rattle.byte_ports.proofs.OpenedFiles.{IsNewAt, IsNewIfNamed}
 use Rattle.inrc2pb_frame.proofs.Shows.{About, Shows, Writes, about, contents, lies, reading, shows-check, shows-file, shows-find, shows-made}
 use Rattle.inrc2pb_frame.proofs.Shows.{shows-room, shows-same, shows-then, writes-last, writes-then, writing}
@@ -83,16 +80,6 @@ shows-for_all one = shows-renamed Run (λ fault. refl) one
 shows-for_week : {A : Type 0} (weeks index : ℕ) {run shown : Step A} → Shows about run shown →
     Shows about_period (for_week weeks index run) (for_week weeks index shown)
 shows-for_week weeks index one = shows-renamed (fault_in_week weeks index) (about-week weeks index) one
-
-breaks-about : (week : Problem) (roster : Roster) (fault : Fault) → BreaksRule week roster fault → about fault ≡ contents
-breaks-about week roster (Breaks rule) breaks = refl
-breaks-about week roster (File one) breaks = absurd breaks
-breaks-about week roster Memory breaks = absurd breaks
-breaks-about week roster Write breaks = absurd breaks
-breaks-about week roster Read breaks = absurd breaks
-breaks-about week roster (Answer one) breaks = absurd breaks
-breaks-about week roster (NoRoster status) breaks = absurd breaks
-breaks-about week roster (one_fault.Unmet number) breaks = absurd breaks
 
 lacks-memory : (fault : PeriodFault) → fault ≡ Run Memory → about_period fault ≡ reading
 lacks-memory fault is = ap about_period is
