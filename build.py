@@ -42,7 +42,7 @@ PAUSE = 0.1
 # The niceness of the lowest priority.
 LEAST_PRIORITY = 19
 NO_KIT = (
-    "there is no command rt: the kit of Rattle has it, which docs/install.md names. Once"
+    "there is no command rt: the kit of Rattle has it, which docs/build.md names. Once"
     " it is unpacked, add its folder bin to PATH."
 )
 

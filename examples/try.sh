@@ -7,7 +7,7 @@
 set -u
 cd "$(dirname "$0")/../crates/inrc2pb" || exit 2
 command -v rt > /dev/null || {
-    echo "There is no command rt: the kit of Rattle has it, which docs/install.md names. Once it is unpacked, add its folder bin to PATH."
+    echo "There is no command rt: the kit of Rattle has it, which docs/build.md names. Once it is unpacked, add its folder bin to PATH."
     exit 2
 }
 

@@ -1,6 +1,6 @@
 #!/usr/bin/env bash
 # Checks facts that the repository states twice: the program, CHANGELOG.md and the Python package have the same version, the
-# generators write the example weeks, docs/install.md names this kit, and the examples of the libraries are their tests. Checks that
+# generators write the example weeks, docs/build.md names this kit, and the examples of the libraries are their tests. Checks that
 # no crate uses lemmas of another that no list has, that no file forgets a soft rule, that the pages for contributors name existing files, the
 # shell scripts by shellcheck, if it is installed, and which files can be run.
 #
@@ -43,17 +43,17 @@ commands_are_launchers() {
     for file in python/inrc2pb-*; do cmp -s python/inrc2pb-plan "$file" || complain "$file is not as python/inrc2pb-plan"; done
 }
 
-# The kit at hand is the one that docs/install.md names or a later one, with the logic that docs/install.md and docs/trusted.md name.
+# The kit at hand is the one that docs/build.md names or a later one, with the logic that docs/build.md and docs/trusted.md name.
 kit_is_named() {
     local kit named sum
     has rt || return
-    begins_case 'the kit in docs/install.md'
+    begins_case 'the kit in docs/build.md'
     kit=$(rt version)
-    named=$(grep -o -m 1 'rattle-kit-[0-9a-z]*' docs/install.md)
+    named=$(grep -o -m 1 'rattle-kit-[0-9a-z]*' docs/build.md)
     sum=$(grep -oP -m 1 'sum=\K[0-9a-f]+' docs/trusted.md)
     printf '%s\n' "$named" "${kit%% *}" | sort -VC || complain "$kit is older than $named"
     [ "${kit#* }" = "logic $sum" ] || complain "$kit has another logic than $sum"
-    grep -qF "the logic \`$sum\`" docs/install.md || complain "docs/install.md does not name the logic $sum"
+    grep -qF "the logic \`$sum\`" docs/build.md || complain "docs/build.md does not name the logic $sum"
 }
 
 # The example with which a library opens is the text of a test, line for line.
