@@ -21,18 +21,13 @@ def check_days(now: PlanDays, before: PlanDays) -> None:
             f"a {PERIOD_IS_OVER}: write the days of the next one{begin} into the sheet plan, with"
             " its wishes and absences"
         )
-    raise _other_days(before)
+    raise Misuse(other_days_text(before))
 
 
-def check_sheet(sheet: PlanDays, planned: PlanDays) -> None:
-    """The spreadsheet has the days of a later plan."""
-    if sheet.first_of(planned) is None:
-        raise _other_days(planned)
-
-
-def _other_days(planned: PlanDays) -> Misuse:
+def other_days_text(planned: PlanDays) -> str:
+    """That the spreadsheet has not the days of a plan, and what to do."""
     begin = "" if planned.monday is None else f" from {planned.monday} on"
-    return Misuse(
+    return (
         f"the plan has {plural(planned.weeks, 'week')}{begin}, and the sheet plan has other days:"
         " write these, and those of the next period to their right"
     )

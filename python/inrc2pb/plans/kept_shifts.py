@@ -19,7 +19,7 @@ def sums_of_period(period: Period, plan: WardPlan) -> dict[str, Sums]:
     """What each nurse had in a period; names, the times of shift types, and which are nights, are
     those of another plan."""
     try:
-        past = past_plan(period, plan.ward)
+        past = past_plan(period)
     except (FileFault, OSError):
         return {}
     names = plan.ward.names_since(past.state.was)

@@ -29,7 +29,7 @@ def last_year(periods: Sequence[Period], plan: WardPlan) -> LastYear:
     since: datetime.date | None = None
     for period, first in _earlier(periods, plan):
         try:
-            past = past_plan(period, plan.ward)
+            past = past_plan(period)
         except (FileFault, OSError):
             continue
         named = past.state.renamed(plan.ward.names_since(past.state.was))

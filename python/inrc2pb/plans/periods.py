@@ -9,14 +9,16 @@ period before it is known, so no correction of the past is lost.
 
 from dataclasses import dataclass, replace
 from pathlib import Path
-from typing import Iterable, Iterator, NamedTuple, Sequence
+from typing import Iterable, Iterator, Mapping, NamedTuple, Sequence
 
 from ..judging.leave import Counted
 from ..judging.next_history import next_history
+from ..judging.odd_values import Reach
 from ..sheets.open_shifts import lowered
+from ..sheets.sheet_files import Book
 from ..sheets.ward import Border, Ward
 from ..sheets.written_days import BACK, DayWord
-from ..week.dates import PlanDays
+from ..week.dates import PlanDays, Times
 from ..week.facts import Choice, Claim, read_facts, read_reasons
 from ..week.files import read_history, read_scenario, read_solution, read_week
 from ..week.records import WEEK_DAYS, Cell, History, NurseDay, Scenario, in_plan
@@ -123,13 +125,13 @@ def border_of(ward: Ward, after: State) -> tuple[Border, ...]:
     )
 
 
-# ---- the ward of a period that is over
+# ---- the ward of a period, as its folder has it
 
 
 @dataclass(frozen=True)
 class PastWard(Ward):
-    """The ward of a period that is over, as the folder of its plan has it, since the spreadsheet is
-    that of a later one."""
+    """The ward of a period as the folder of its plan has it, if the spreadsheet is that of a later
+    one, or lacks days."""
 
     def with_absences(self, absences: Sequence[DayWord]) -> Ward:
         """The same with these days away."""
@@ -140,8 +142,9 @@ class PastWard(Ward):
         )
 
 
-def past_plan(period: Period, now: Ward) -> WardPlan:
-    """The plan of a period that is over. Its times and new names are those of the ward of now."""
+def past_plan(period: Period, times: Mapping[str, Times] = {}) -> WardPlan:
+    """The plan of a period as its folder has it, with the times that shift types have now, if they
+    are given."""
     state = state_of(period)
     folder = period.folder
     scenario = read_scenario(folder / "ward.txt")
@@ -149,7 +152,7 @@ def past_plan(period: Period, now: Ward) -> WardPlan:
     words = read_reasons(folder / "reasons.txt", scenario)
     ward = PastWard(
         warnings=(),
-        reach=now.reach,
+        reach=Reach.ALL,
         days=period.days,
         scenario=scenario,
         past=state.start,
@@ -165,11 +168,11 @@ def past_plan(period: Period, now: Ward) -> WardPlan:
         },
         promised=frozenset(),
         counted=_counted(folder, scenario, state.start),
-        times=now.times,
+        times=times,
         holidays=frozenset(read_record(folder).holidays),
         week_rows=(),
         was=state.was,
-        book=now.book,
+        book=Book(folder, {}),
         opened=state.opened,
     )
     return plan_of(ward, state)

@@ -4,12 +4,16 @@ now."""
 import contextlib
 import shlex
 from dataclasses import replace
-from typing import Iterator, NamedTuple, Sequence
+from typing import Iterator, Mapping, NamedTuple, Sequence
 
+from ..sheets.gone_days import Gone, always_off, older_names_of
 from ..sheets.older_names import Begin, Names
+from ..sheets.plan_days import head_dates
 from ..sheets.ward import Ward
+from ..sheets.ward_sheets import shift_times
 from ..sheets.week_rows import WeekRow, unchanged_rows
-from ..week.dates import PlanDays
+from ..sheets.written_days import DayWord
+from ..week.dates import PlanDays, Times
 from ..week.faults import FileFault, FileFaults, Misuse
 from ..week.files import read_scenario, read_week
 from ..week.own_files import check_no_link
@@ -24,8 +28,8 @@ from .periods import (
     periods_of,
     state_of,
 )
-from .fits import check_sheet
 from .plan_files import known_record, read_state
+from .sheet_words import missing_days, sheet_words
 from .state import State, renamed
 from .ward import BeforeAndAfter, WardPlan, continued, first_plan
 from .ward_folder import WardFolder
@@ -104,9 +108,7 @@ class PlanReader:
         """The same of the period with this number, which has a plan, or follows one that has."""
         periods = {period.number: period for period in self.periods()}
         known = periods.get(number)
-        for period in periods.values():
-            if period.number > number and period.days.monday is not None:
-                check_sheet(self.folder.days(), period.days)
+        self._check_columns()
         before = periods.get(number - 1)
         past = _end(before, corrected) if before else None
         begun = State(before.days.next(), past, period=number) if before and past else None
@@ -117,12 +119,43 @@ class PlanReader:
         days = state.days if known else _first_weeks(self.folder.days(), state.days, weeks)
         of_before = (past, state_of(before).was) if before and past else (state.start, state.was)
         begin = Begin(tuple(of_before[0].nurses.values()), of_before[1]) if number else Begin()
-        ward = self.folder.ward(state.start.scenario, state.absences, days, state.opened, begin)
+        gone = self._gone(known) if known else Gone()
+        ward = self.folder.ward(
+            state.start.scenario, state.absences, days, state.opened, begin, gone
+        )
         after = periods.get(number + 1)
         border = border_of(ward, self._named(state_of(after), ward)) if after else ()
         if before and past:
             past = renamed(past, ward.names_since(state_of(before).was))
         return continued(ward.with_border(border), state, past)
+
+    def _check_columns(self) -> None:
+        """Raises Misuse if a day that is not over, and is planned, has no column."""
+        dates = head_dates(self.folder.book())
+        if dates is None:
+            return
+        for period in self.periods():
+            days = period.days
+            is_dated = days.monday is not None and not period.ended
+            first = WEEK_DAYS * period.open_week if is_dated else days.total
+            missing = [day for day in range(first, days.total) if days.date(day) not in dates]
+            if missing:
+                plan = past_plan(period)
+                raise missing_days(plan, self._sheet_words(plan), missing)
+
+    def _gone(self, period: Period) -> Gone:
+        """The first days of a period whose columns were taken out, since they are over."""
+        begins = self.folder.days().monday
+        days = (begins - period.days.monday).days if begins and period.days.monday else 0
+        if not 0 < days <= WEEK_DAYS * period.open_week:
+            return Gone()
+        words = self._sheet_words(past_plan(period))
+        return Gone(days, tuple(word for word in words if word.day < days))
+
+    def _sheet_words(self, plan: WardPlan) -> list[DayWord]:
+        """What the cells of a plan had, with the names of now."""
+        off = always_off(self.folder.book())
+        return list(sheet_words(plan.ward, self.names_since(plan.state), off))
 
     def before_and_after(self, corrected: State, number: int | None = None) -> BeforeAndAfter:
         """The plan that holds of a period, as it is, and if an older period has this state; None if
@@ -156,13 +189,18 @@ class PlanReader:
 
     def names_since(self, state: State) -> Names:
         """The names in the spreadsheet for those of an older plan."""
-        return self.folder.ward().names_since(state.was)
+        was = older_names_of(self.folder.book())
+        return Names(one for one in was if one not in state.was)
+
+    def times(self) -> Mapping[str, Times]:
+        """The times that shift types have in the spreadsheet."""
+        return shift_times(self.folder.book())
 
     def past_plans(self) -> Iterator[WardPlan]:
         """The plans of the periods that are over, the last one first."""
         for period in reversed(self.periods()):
             if period.is_over:
-                yield past_plan(period, self.folder.ward())
+                yield past_plan(period, self.times())
 
     def planned(self) -> WardPlan:
         """The same. Raises Misuse if it has no rosters."""

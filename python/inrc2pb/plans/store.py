@@ -128,7 +128,7 @@ class PlanStore(PlanReader):
         for period in self.periods():
             if period.is_over:
                 with contextlib.suppress(FileFault, FileFaults, Misuse):
-                    yield past_plan(period, self.folder.ward())
+                    yield past_plan(period, self.times())
 
     def _page_after(self, undone: Record | None) -> tuple[Path, ...]:
         """Writes the page of a period that is over, if the plan that was taken back was of it."""
@@ -137,7 +137,7 @@ class PlanStore(PlanReader):
             for period in (self.periods() if undone else ())
             if period.is_over and undone and period.number == undone.period
         ]
-        plans = (past_plan(period, self.folder.ward()) for period in periods)
+        plans = (past_plan(period, self.times()) for period in periods)
         return tuple(pages.write_worked(self.folder.top, plan) for plan in plans)
 
     def pages_of_past(self, past: WardPlan, now: WardPlan | None) -> Pages:

@@ -14,6 +14,7 @@ from pathlib import Path
 from typing import Callable, Iterator, Sequence, TextIO
 
 from ..programs.interrupts import interrupts
+from ..sheets.gone_days import Gone, with_gone
 from ..sheets.older_names import Begin
 from ..sheets.open_shifts import OpenShift
 from ..sheets.period_row import weeks_of_period
@@ -107,15 +108,17 @@ class WardFolder:
         period: PlanDays | None = None,
         opened: Sequence[OpenShift] = (),
         begin: Begin = Begin(),
+        gone: Gone = Gone(),
     ) -> Ward:
         """The ward of a period of the spreadsheet, or of all its days; it has this name, if it has
-        one, and these days away in its plan, these shifts are left open, and nurses begin so."""
+        one, and these days away in its plan, these shifts are left open, nurses begin so, and of
+        the period these days have no columns any more."""
         spreadsheet = self.spreadsheet()
         return self._ward.of(
             tables_of(spreadsheet),
-            (name, tuple(absences), period, tuple(opened), begin),
+            (name, tuple(absences), period, tuple(opened), begin, gone),
             lambda: ward_of(
-                self.book(),
+                with_gone(self.book(), period, gone) if period else self.book(),
                 name or ward_name(spreadsheet),
                 absences,
                 period=period,

@@ -1,11 +1,13 @@
 """The days and weeks that the sheets name: the heads of the sheet plan, one for each day, and the
 weeks of rows of the sheet needs."""
 
+import contextlib
 import datetime
 import re
 from typing import Iterator, NamedTuple
 
 from ..week.dates import DAY, PlanDays, date_without_year, written_dates
+from ..week.faults import FileFault, FileFaults
 from ..week.records import DAYS, Scenario
 from ..week.slots import MAX_WEEKS
 from ..week.words import plural
@@ -47,7 +49,7 @@ def read_days(book: Book, period: PlanDays | None = None) -> Days:
     """The days of the sheet plan, whole weeks from Monday to Sunday; of these those of a period, if
     the sheet has them all."""
     plan = Table(book, "plan", ("nurse",), open_end=True)
-    columns = plan.others
+    columns = plan.others[: len(plan.others) - book.added]
     dates = [date_of(cell) for cell in columns]
     monday = dates[0] if dates else None
     for index, (cell, date) in enumerate(zip(columns, dates)):
@@ -77,11 +79,22 @@ def read_days(book: Book, period: PlanDays | None = None) -> Days:
         )
     if not columns or len(columns) % len(DAYS):
         plan.fault(f"it has {plural(len(columns), 'day')}: plan whole weeks, from Monday to Sunday")
+    columns = [*plan.others[len(columns) :], *columns]
+    monday = monday and monday - book.added * DAY
     sheet = PlanDays(monday, len(columns) // len(DAYS))
     first = sheet.first_of(period) if period else None
     if period is None or first is None:
         return Days(plan, columns, monday, sheet)
     return Days(plan, columns[first : first + period.total], period.monday, sheet)
+
+
+def head_dates(book: Book) -> frozenset[datetime.date] | None:
+    """The dates of the heads of the sheet plan; None if some of them have none."""
+    with contextlib.suppress(FileFault, FileFaults):
+        heads = Table(book, "plan", ("nurse",), open_end=True).others
+        dates = [date for head in heads for date in [date_of(head)] if date]
+        return frozenset(dates) if len(dates) == len(heads) else None
+    return None
 
 
 def plan_warnings(days: Days, scenario: Scenario) -> Iterator[str]:

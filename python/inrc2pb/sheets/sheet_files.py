@@ -67,6 +67,9 @@ class Book(NamedTuple):
     merged: Mapping[str, Sequence[Merged]] = {}
     # The names of hidden sheets.
     concealed: Collection[str] = ()
+    # The number of columns at the end of the sheet plan that the folder of a ward has added: they
+    # are of days before the others.
+    added: int = 0
 
 
 def read_book(path: Path) -> Book:

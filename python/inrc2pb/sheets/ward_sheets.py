@@ -115,7 +115,7 @@ def read_ward(book: Book, name: str, weeks: int, faults: Gathering) -> WardTable
             for part in row.of("never").parts()
         ]
         no_days: list[int] = []
-        off = faults.tried(lambda: _days_off(row.of("always off")), no_days)
+        off = faults.tried(lambda: days_off(row.of("always off")), no_days)
         of_past = _past(row, nurse, shift_types, faults, of_shifts)
         if nurse and nurse not in nurses:
             nurses[nurse] = record
@@ -186,7 +186,7 @@ def _check_number(table: Table, kind: str, number: int, most: int) -> None:
         table.fault(f"it has {number} {kind}, and a ward has 1 to {most}: correct the rows")
 
 
-def _days_off(cell: SheetCell) -> list[int]:
+def days_off(cell: SheetCell) -> list[int]:
     """The days of the week that the cell names, with commas between."""
     names = {
         name.casefold(): day for day, full in enumerate(_WEEKDAYS) for name in (full, DAYS[day])

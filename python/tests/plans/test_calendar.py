@@ -88,6 +88,98 @@ class PeriodRow(CalendarTest):
             self.rows["contracts"].pop()
 
 
+class ColumnsThatAreOver(CalendarTest):
+    """Week 1 is over, and week 2 runs."""
+
+    def setUp(self):
+        super().setUp()
+        # Grace works from Monday to Friday, Amara from Monday to Wednesday, Finn on Friday.
+        cells = {"Grace": (3, "leave"), "Chen": (1, "wish"), "Ewa": (3, "off"), "Finn": (5, "Late")}
+        for row in self.rows["plan"][1:]:
+            if row[0] in cells:
+                day, text = cells[row[0]]
+                row[day] = text
+            row[2] = "no Late, Night" if row[0] == "Amara" else row[2]
+            row[9] = "wish" if row[0] == "Dilek" else row[9]
+            row[10] = "off" if row[0] == "Ewa" else row[10]
+        self.write()
+        self.does("page")
+        self.does("over", "Bruno", "1.12.", "ill")
+
+    def without(self, *days):
+        """The sheet plan has not the columns of these days."""
+        self.rows["plan"] = [
+            [cell for column, cell in enumerate(row) if column - 1 not in days]
+            for row in self.rows["plan"]
+        ]
+        self.write()
+
+    def test_they_may_go_within_a_period(self):
+        self.plan_january()
+        self.does("page")
+        before, wall = self.reader().current(), (self.ward / "wall.html").read_text()
+        self.without(*range(WEEK_DAYS))
+        now = self.reader().current()
+        self.assertEqual(now.days, before.days)
+        for name in ("reasons", "promised", "weeks", "counted", "scenario", "holidays"):
+            self.assertEqual(getattr(now.ward, name), getattr(before.ward, name), name)
+        self.assertEqual(set(now.ward.held), set(before.ward.held))
+        self.assertEqual((set(now.limits), now.cells), (set(before.limits), before.cells))
+        # Nobody has typed a word of a day that is over: what remains of it is what counts.
+        self.assertEqual(now.ward.reasons["Grace", 2], "leave")
+        self.does("page")
+        time = re.compile("[0-9]{4}-[0-9]{2}-[0-9]{2} [0-9]{2}:[0-9]{2}|00[0-9]{2}-[-0-9a-z]+")
+        again = (self.ward / "wall.html").read_text()
+        self.assertEqual(time.sub("", again), time.sub("", wall))
+
+    def test_what_is_over_can_be_corrected_without_them(self):
+        self.without(*range(WEEK_DAYS))
+        printed = self.does("over", "Chen", "4.12.", "ill")
+        self.assertIn("Chen, Fri 4 Dec: ill instead of Night Nurse\n", printed)
+        self.assertEqual(self.reader().current().ward.reasons["Chen", 4], "ill")
+        for row in (*self.rows["nurses"], *self.rows["plan"]):
+            row[0] = "Grace Miller" if row[0] == "Grace" else row[0]
+        for row in self.rows["nurses"]:
+            row[11:] = ["was" if row[0] == "nurse" else "Grace" if "Grace" in row[0] else ""]
+        self.write()
+        self.assertEqual(self.reader().current().ward.reasons["Grace_Miller", 2], "leave")
+        self.does("over")
+        self.assertTrue(self.reader().periods()[0].is_over)
+
+    def test_days_that_are_not_over_are_missed_with_who_has_what(self):
+        self.does("set", "Amara", "9.12.", "off", "--open", "--do", "--time", "0")
+        plans = sorted(self.ward.glob("plans/0*"))
+        rows = [list(row) for row in self.rows["plan"]]
+        for gone in (
+            range(2 * WEEK_DAYS),
+            (8,),
+            (8, 9),
+            range(WEEK_DAYS, 2 * WEEK_DAYS),
+            range(WEEK_DAYS, 4 * WEEK_DAYS),
+        ):
+            self.rows["plan"] = [list(row) for row in rows]
+            self.without(*gone)
+            for words in (["check"], ["page"], ["over"], ["set", "Grace", "10.12.", "off", "--do"]):
+                status, _, said = run("plan", self.ward, *words)
+                self.assertEqual(status, 1, said)
+                self.assertIn("the plan has 2 weeks from 2026-11-30 on, and the sheet plan", said)
+                self.assertIn("; Tue 8 Dec: " if 7 in gone else ": Tue 8 Dec: ", said)
+                tuesday = said.partition("Tue 8 Dec: ")[2].partition(";")[0]
+                self.assertIn("Dilek wish", tuesday)
+                self.assertRegex(tuesday, "Grace(, [A-Za-z]+)* and [A-Za-z]+ Day|Grace Day")
+                self.assertEqual("Amara off, promised" in said, 9 in gone)
+                self.assertEqual("Ewa off" in said, 9 in gone)
+                self.assertNotIn("1 Dec:", said.replace("11 Dec:", ""))
+        self.assertEqual(sorted(self.ward.glob("plans/0*")), plans)
+
+    def test_undo_needs_them_again(self):
+        self.without(*range(WEEK_DAYS))
+        printed = self.does("undo")
+        self.assertIn("its pages are not written: the plan has 2 weeks from 2026-11-30", printed)
+        self.assertIn("Wed 2 Dec: ", printed)
+        self.assertIn("Grace leave", printed)
+
+
 class NextBeforeTheEnd(CalendarTest):
     def test_its_history_is_what_is_planned_until_then(self):
         # Chen has Night from Friday to Sunday.
