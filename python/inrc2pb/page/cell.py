@@ -53,9 +53,16 @@ class Actions:
         """The section of the page: what she has, what can be done, and what her week costs."""
         nurse, day = self._place
         heading = element("h2", f"{readable(nurse)}, {self._plan.days.text(day)}: {self._has()}")
-        groups = [
-            group for group in (self._others(), self._shifts(), self._away(), self._back()) if group
-        ]
+        made = (self._others(), self._shifts(), self._away(), self._back())
+        groups = [group for group in made if group]
+        if day < self._plan.state.begin:
+            groups = [
+                element(
+                    "p",
+                    "This day is recorded as it was worked: the end of the week has a"
+                    " form that corrects it.",
+                )
+            ]
         return element(
             "section",
             heading,

@@ -198,6 +198,8 @@ def _question(form: Form, fields: Fields, plan: WardPlan | None) -> str:
         other = _shown(plan, fields.get("other day", ""))
         days = f"{first} and {other}" if other not in ("", first) else first
         return readable(f"Write this swap: {fields['nurse']} and {fields.get('other', '')}, {days}")
+    if fields.get("corrections"):
+        return readable(f"What was worked: {fields['corrections']}")
     named = (
         [plan.days.span([plan.first, plan.first + WEEK_DAYS - 1])]
         if plan and form.verb == "over"
@@ -265,7 +267,7 @@ def _input(name: str, plan: WardPlan, kept: str, seconds: float) -> Markup:
         case "nurse" | "other":
             choices = [(nurse, readable(nurse)) for nurse in plan.scenario.nurses]
         case _:
-            days = range(plan.first, plan.days.total)
+            days = range(plan.state.begin, plan.days.total)
             choices = [(plan.days.head(day), plan.days.text(day)) for day in days]
     options = [
         element("option", text, value=value, selected="" if value and value == kept else None)

@@ -11,7 +11,7 @@ from ..plans.pages import CALENDARS, roster_content
 from ..plans.planned import Planned
 from ..plans.state import Swap
 from ..plans.table import Done
-from ..plans.verbs.over import WeekOver
+from ..plans.verbs.over import Corrected, WeekOver
 from ..plans.verbs.swap import Swapped
 from ..plans.ward import WardPlan
 from ..shown.calendars import file_names
@@ -255,7 +255,7 @@ def _said(said: Said, shown: Shown, address: str) -> list[Markup]:
     write = (
         [button_markup({**words, "write it": "yes"}, "Write this swap", address)] if is_look else []
     )
-    if isinstance(outcome, (Away, Planned, WeekOver)) and not outcome.is_written:
+    if isinstance(outcome, (Away, Planned, WeekOver, Corrected)) and not outcome.is_written:
         asked = {name: value for name, value in said.fields.items() if value}
         write = [button_markup({**asked, "write it": "yes"}, "Write it all the same", address)]
     if outcome is not None and outcome.may_be_open and not shown.asks:

@@ -22,18 +22,29 @@ from .words import Wording
 
 class Corrections(NamedTuple):
     """The plan before and with them, both as if no week were over, so that all days are judged
-    alike; the days on which nurses were away or back by them; and their weeks."""
+    alike; the days on which nurses were away or back by them; and the nurses' days."""
 
     old: WardPlan
     new: WardPlan
     away: Mapping[NurseDay, str]
-    weeks: frozenset[int]
+    places: frozenset[NurseDay]
+
+    @property
+    def weeks(self) -> frozenset[int]:
+        """The weeks of these days."""
+        return frozenset(place.day // WEEK_DAYS for place in self.places)
 
     def with_open(self, open_week: int) -> WardPlan:
-        """The plan with them, whose first weeks are over."""
+        """The plan with them, whose first weeks are over, and whose days up to the last of these
+        are recorded as they were worked."""
         # What is known of other plans was of these weeks as they were planned.
-        state = replace(self.new.state, open_week=open_week, least=None)
-        new = plan_of(self.new.ward, state.keeping(lambda place: place.day >= state.first))
+        last = max([self.new.state.recorded, *(place.day + 1 for place in self.places)])
+        recorded = last if last > WEEK_DAYS * open_week else 0
+        state = replace(self.new.state, open_week=open_week, least=None, recorded=recorded)
+        new = plan_of(
+            self.new.ward,
+            state.keeping(lambda place: place.day >= state.first and place not in self.places),
+        )
         return worked_open(new)
 
     def lines(self) -> list[str]:
@@ -64,7 +75,7 @@ class _Worked(NamedTuple):
 
     cells: dict[NurseDay, Cell]
     away: dict[NurseDay, str]
-    days: set[int]
+    places: set[NurseDay]
 
 
 def corrections_of(
@@ -81,9 +92,9 @@ def corrections_of(
     while not wording.is_over:
         place = NurseDay(known[wording.nurse()], wording.day())
         if place.day >= end:
+            why = "is after the week that ends now" if plan.days.monday is None else "has not begun"
             raise Misuse(
-                f"{plan.days.text(place.day)} is after the week that ends now: the verb swap, or"
-                " ill, changes later days"
+                f"{plan.days.text(place.day)} {why}: the verb swap, or ill, changes later days"
             )
         _correct(old, wording, worked, place)
     absences = old.state.absences
@@ -92,12 +103,12 @@ def corrections_of(
         absences = with_days(absences, nurse, [day], word, lost)
     with_them = old.with_absences(absences) if worked.away else old
     new = plan_of(with_them.ward, with_them.state.with_open(worked.cells.values()))
-    return Corrections(old, new, worked.away, frozenset(day // WEEK_DAYS for day in worked.days))
+    return Corrections(old, new, worked.away, frozenset(worked.places))
 
 
 def _correct(old: WardPlan, wording: Wording, worked: _Worked, place: NurseDay) -> None:
     """Takes one correction of a nurse's day. The last one of a day counts."""
-    worked.days.add(place.day)
+    worked.places.add(place)
     worked.cells.pop(place, None)
     worked.away.pop(place, None)
     word = wording.one_of(AWAY)
@@ -134,6 +145,6 @@ def follow_lines(before: WardPlan, now: WardPlan) -> list[str]:
     if any(fault not in known for fault in faults):
         said.append(
             "after these corrections the plan does not fit any more: plan again, from"
-            f" {now.days.text(now.first)} on"
+            f" {now.days.text(now.state.begin)} on"
         )
     return [*said, *days_away_lines(now)]

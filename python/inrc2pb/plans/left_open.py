@@ -25,10 +25,12 @@ def left_open(plan: WardPlan, first: int = 0) -> WardPlan:
 
 
 def worked_open(plan: WardPlan) -> WardPlan:
-    """The plan in whose weeks that are over each minimum number that nobody has filled is open."""
-    worked = [one for one in _missing(plan, 0) if one.day < plan.first]
+    """The plan in which each minimum number that nobody has filled is open on the days that are
+    over, or recorded as they were worked."""
+    begin = plan.state.begin
+    worked = [one for one in _missing(plan, 0) if one.day < begin]
     return with_fewer_open(
-        with_open(plan, [*worked, *(one for one in plan.state.opened if one.day >= plan.first)])
+        with_open(plan, [*worked, *(one for one in plan.state.opened if one.day >= begin)])
     )
 
 

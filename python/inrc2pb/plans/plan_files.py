@@ -47,6 +47,7 @@ _LEAST = "least points"
 # The most points of a plan.
 _MOST_POINTS = 10**9
 _SWAP = "swap"
+_RECORDED = "days recorded"
 # The most periods of a folder.
 _MOST_PERIODS = 9999
 
@@ -78,6 +79,7 @@ def record_text(record: Record) -> str:
         **({_HOLIDAYS: [*record.holidays]} if record.holidays else {}),
         **({} if record.least is None else {_LEAST: record.least}),
         **({_SWAP: [list(place) for place in record.swap.places]} if record.swap else {}),
+        **({_RECORDED: record.recorded} if record.recorded else {}),
     }
     lines = [
         f"  {json.dumps(name)}: {json.dumps(value, ensure_ascii=False)}"
@@ -160,8 +162,9 @@ def _record_of(values: Any) -> Record:
         _HOLIDAYS,
         _LEAST,
         _SWAP,
+        _RECORDED,
     )
-    newer = {_SET, _TYPED, _PERIOD, _OPEN, _WAS, _HOLIDAYS, _LEAST, _SWAP}
+    newer = {_SET, _TYPED, _PERIOD, _OPEN, _WAS, _HOLIDAYS, _LEAST, _SWAP, _RECORDED}
     if not isinstance(values, dict) or {*newer, *values} != set(names):
         raise _Changed(f"it has not the names {', '.join(names)}")
     values = {_SET: [], _TYPED: "", _OPEN: [], _WAS: [], _HOLIDAYS: [], _SWAP: [], **values}
@@ -200,6 +203,7 @@ def _record_of(values: Any) -> Record:
             )
         ),
         swap=_swap_of(_rows(values, _SWAP, [_is_text, is_day]), values["verb"], days),
+        recorded=_taken({_RECORDED: 0, **values}, _RECORDED, _is_number_to(days.total)),
     )
 
 
@@ -283,6 +287,7 @@ def read_state(folder: Path) -> State:
         opened=record.opened,
         was=record.was,
         least=record.least,
+        recorded=record.recorded,
     )
 
 

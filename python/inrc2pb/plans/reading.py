@@ -67,6 +67,11 @@ class PlanReader:
         self.folder = folder
         self._number = number
 
+    @property
+    def is_later(self) -> bool:
+        """Whether verbs are about a period after the one that runs."""
+        return self._number is not None and self._number > running(self.periods())
+
     def periods(self) -> list[Period]:
         """The periods of the folder."""
         check_no_link(self.folder.plans)

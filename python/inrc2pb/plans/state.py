@@ -83,6 +83,13 @@ class Record(NamedTuple):
     least: int | None = None
     # The swap that its verb has written, if it was one.
     swap: Swap | None = None
+    # The first day after those that are recorded as they were worked.
+    recorded: int = 0
+
+    @property
+    def begin(self) -> int:
+        """The first day that is not recorded as it was worked."""
+        return max(WEEK_DAYS * self.open_week, self.recorded)
 
     @property
     def made(self) -> str:
@@ -112,6 +119,8 @@ class State:
     is_as_planned: bool = False
     # What no plan costs less than, as far as the last search of all shifts has said so.
     least: int | None = None
+    # The first day after those that are recorded as they were worked.
+    recorded: int = 0
 
     @property
     def promised(self) -> dict[NurseDay, SetDay]:
@@ -133,6 +142,11 @@ class State:
     def first(self) -> int:
         """The first day that is not over."""
         return WEEK_DAYS * self.open_week
+
+    @property
+    def begin(self) -> int:
+        """The first day that plans may change: those before it are over, or recorded."""
+        return max(self.first, self.recorded)
 
     def roster(self, week: int) -> tuple[Cell, ...]:
         """The shifts of a week, with the days of the week, as files have them."""
@@ -163,6 +177,7 @@ class State:
             opened=self.opened,
             was=self.was,
             swap=swap,
+            recorded=self.recorded,
         )
 
     def renamed(self, names: Names) -> "State":

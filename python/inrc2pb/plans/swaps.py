@@ -150,7 +150,7 @@ class Swaps:
             return fault.kind not in _FIRM
         beside = NurseDay(fault.nurse, fault.day - (fault.day == place.day))
         fixed = {*self.plan.held, *self.plan.state.kept}
-        return beside.day >= self.plan.first and beside not in fixed
+        return beside.day >= self.plan.state.begin and beside not in fixed
 
     def day_cost(self, place: NurseDay, now: Cell | None) -> int:
         """What that adds to the penalty: the charges of the nurse, and of the places that she
@@ -211,7 +211,7 @@ class Swaps:
                 yield from (
                     Swap(nurse, other, (day, back))
                     for back in cells
-                    if back not in self._cells[nurse]
+                    if back not in self._cells[nurse] and back >= self.plan.state.begin
                 )
 
     def _faults(self, nurse: str, cells: NurseCells, days: Sequence[int]) -> Iterator[Fault]:

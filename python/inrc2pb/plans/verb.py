@@ -149,7 +149,9 @@ class Verb(NamedTuple):
 
 def wording_of(plan: WardPlan, event: Event, usage: str) -> Wording:
     """The words of an event, of which `usage` is an example."""
-    return Wording(event.words, plan.scenario.nurses, plan.days, plan.first, usage)
+    return Wording(
+        event.words, plan.scenario.nurses, plan.days, plan.first, usage, plan.state.begin
+    )
 
 
 def cell_of(wording: Wording, old: WardPlan, place: NurseDay) -> Cell | None:

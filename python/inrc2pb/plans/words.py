@@ -27,12 +27,19 @@ class Wording:
     nothing. `usage` is an example of the whole line."""
 
     def __init__(
-        self, words: Sequence[str], nurses: Collection[str], days: PlanDays, first: int, usage: str
+        self,
+        words: Sequence[str],
+        nurses: Collection[str],
+        days: PlanDays,
+        first: int,
+        usage: str,
+        begin: int = 0,
     ) -> None:
         self._left = [text for text in (tidy(word).rstrip(",;") for word in words) if text]
         self._nurses = nurses
         self._days = days
         self._first = first
+        self._begin = begin
         self._usage = usage
 
     @property
@@ -71,7 +78,7 @@ class Wording:
         return self._days.number(text, self._first if near is None else near)
 
     def open_day(self, near: int | None = None) -> int:
-        """The same. Raises Misuse if the day is in a week that is over."""
+        """The same. Raises Misuse if the day is in a week that is over, or recorded."""
         day = self.day(near)
         if day < self._first:
             cure = (
@@ -79,6 +86,10 @@ class Wording:
                 " week back"
             )
             raise Misuse(f"{self._days.text(day)} is in a week that is over: {cure}")
+        if day < self._begin:
+            raise Misuse(
+                f"{self._days.text(day)} is recorded as it was worked: the verb over corrects it"
+            )
         return day
 
     def one_of(self, words: Collection[str]) -> str:

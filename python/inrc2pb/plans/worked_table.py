@@ -37,11 +37,12 @@ def worked_text(folders: Sequence[Path], ward: Ward) -> str:
 
 
 def _planned_files(folders: Sequence[Path]) -> dict[tuple[int, int], Path]:
-    """The roster of each period and week as it was planned last, before the week was over."""
+    """The roster of each period and day as the day was planned last, before it was over or
+    recorded."""
     return {
-        (number, week): folder / roster_name(week)
+        (number, day): folder / roster_name(day // WEEK_DAYS)
         for folder, record, number in kept_plans(folders)
-        for week in range(record.open_week, record.days.weeks)
+        for day in range(record.begin, record.days.total)
     }
 
 
@@ -56,7 +57,7 @@ def _rows(
     except (FileFault, OSError):
         return
     away = {NurseDay(one.nurse, WEEK_DAYS * (one.week - 1) + one.day): words[one] for one in words}
-    before = _cells([planned.get((period.number, week)) for week in range(state.open_week)])
+    before = _cells([planned.get((period.number, day)) for day in range(state.first)])
     works = {cell.nurse_day: cell for cell in state.cells}
     names = now.names_since(state.was)
     order = {nurse: number for number, nurse in enumerate(ward.nurses)}
@@ -79,10 +80,11 @@ def _rows(
 
 
 def _cells(paths: Sequence[Path | None]) -> dict[NurseDay, Cell]:
-    """The shifts of these rosters of weeks, as far as they are there."""
-    cells = {}
-    for week, path in enumerate(paths):
-        for cell in known_cells(path) if path else ():
-            day = WEEK_DAYS * week + cell.day
-            cells[NurseDay(cell.nurse, day)] = cell._replace(day=day)
-    return cells
+    """The shifts of days in these rosters of their weeks, as far as they are there."""
+    known = {path: known_cells(path) for path in paths if path}
+    return {
+        NurseDay(cell.nurse, day): cell._replace(day=day)
+        for day, path in enumerate(paths)
+        for cell in (known[path] if path else ())
+        if cell.day == day % WEEK_DAYS
+    }

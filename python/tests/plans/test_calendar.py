@@ -305,6 +305,20 @@ class NextBeforeTheEnd(CalendarTest):
         # No bound of plans after the older past holds any more.
         self.assertIsNone(plan.state.least)
 
+    def test_a_day_of_january_is_recorded_before_december_is_over(self):
+        self.plan_january()
+        with today_is(2026, 12, 15):
+            printed = self.does("over", "Grace", "14.12.", "off")
+        self.assertIn("Grace, Mon 14 Dec: off instead of Day Nurse\n", printed)
+        self.assertIn("to Mon 14 Dec as they are: no week ends\n", printed)
+        state = read_state(self.last())
+        self.assertEqual((state.period, state.open_week, state.begin), (1, 0, 1))
+        self.assertEqual([period.open_week for period in self.reader().periods()], [0, 0])
+        with today_is(2026, 12, 13):
+            status, _, said = run("plan", self.ward, "over", "Grace", "14.12.", "off")
+        self.assertEqual(status, 1)
+        self.assertIn("Mon 14 Dec has not begun: ", said)
+
     def test_needs_of_a_week_are_of_one_period(self):
         row = ["", "Day", "Nurse", *[""] * 4, "1", "", ""]
         self.rows["needs"] += [["2026-12-18", *row[1:]], ["2", *row[1:]]]

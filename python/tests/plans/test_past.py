@@ -10,10 +10,14 @@ from unittest import mock
 
 from test_next_period import PeriodTest
 from test_plans import MONDAY, TWO_WEEKS
-from ward import clock, run
+from ward import HAS_CBC, clock, run
 
+from inrc2pb.plans.exchanges import more_even
+from inrc2pb.plans.offers import offers_of
 from inrc2pb.plans.plan_files import read_state
+from inrc2pb.plans.swaps import Swaps
 from inrc2pb.plans.verb import Event
+from inrc2pb.sheets.open_shifts import OpenShift
 from inrc2pb.week.records import WEEK_DAYS
 
 OLDER = Path(__file__).resolve().parents[1] / "data" / "older_version" / "plans"
@@ -169,13 +173,13 @@ class Clock(PeriodTest):
     def test_a_week_that_has_not_ended_asks_first(self):
         for day, text in ((2, "Wed 2 Dec"), (6, "Sun 6 Dec")):
             with today_is(2026, 12, day):
-                status, printed, _ = run("plan", self.ward, "over", "Grace", "Mon", "off")
+                status, printed, _ = run("plan", self.ward, "over")
             self.assertEqual(status, 6)
             self.assertIn(self.SAYS.format(text), printed)
             self.assertIn("nothing is written: type it again with --do\n", printed)
         self.assertEqual(read_state(self.last()).open_week, 0)
         with today_is(2026, 12, 2):
-            self.does("over", "Grace", "Mon", "off", "--do")
+            self.does("over", "--do")
         self.assertEqual(read_state(self.last()).open_week, 1)
 
     def test_a_week_that_has_ended_does_not(self):
@@ -188,6 +192,104 @@ class Clock(PeriodTest):
             asked = self.verbs().asked(Event("over")).question()
             self.assertIn(self.SAYS.format("Wed 2 Dec").strip(), asked)
             self.assertTrue(self.verbs().done(Event("over", on_page=True)).is_written)
+
+
+class BegunDays(PeriodTest):
+    """It is Wednesday of the first week."""
+
+    def setUp(self):
+        super().setUp()
+        clock_of_test = today_is(2026, 12, 2)
+        clock_of_test.start()
+        self.addCleanup(clock_of_test.stop)
+        self.does("page")
+
+    def test_what_was_worked_is_recorded_and_no_week_ends(self):
+        before = set(read_state(self.last()).cells)
+        printed = self.does("over", "Finn", "Tue", "off,", "Grace", "Mon", "ill")
+        self.assertIn("Finn, Tue 1 Dec: off instead of Late Nurse\n", printed)
+        self.assertIn("Tue Late Nurse has 0 nurses and needs at least 1\n", printed)
+        self.assertIn(
+            "later plans leave all days to Tue 1 Dec as they are: no week ends\n", printed
+        )
+        self.assertNotIn("does not fit any more", printed)
+        state = read_state(self.last())
+        gone = {cell for cell in before if cell[:2] in (("Finn", 1), ("Grace", 0))}
+        self.assertEqual((set(state.cells), state.open_week), (before - gone, 0))
+        self.assertEqual(state.opened, (OpenShift(1, "Late", "Nurse", 1),))
+        self.assertIn(
+            "Late Nurse, Tue 1 Dec: 1 nurse missing", (self.ward / "wall.html").read_text()
+        )
+        self.does("undo")
+        self.assertEqual(set(read_state(self.last()).cells), before)
+
+    def test_later_verbs_leave_these_days(self):
+        self.does("set", "Finn", "Tue", "Late", "--do")
+        self.does("over", "Finn", "Tue", "off")
+        days = {cell for cell in read_state(self.last()).cells if cell.day < 2}
+        for words in (
+            "set Ewa Tue Late",
+            "ill Ewa Mon Fri",
+            "swap Ewa Tue",
+            "plan Tue",
+            "back Ewa Mon",
+        ):
+            status, _, said = run("plan", self.ward, *words.split())
+            day = "Mon 30 Nov" if "Mon" in words else "Tue 1 Dec"
+            says = f"inrc2pb-plan: {day} is recorded as it was worked: the verb over corrects it\n"
+            self.assertEqual((status, said), (1, says), words)
+        plan = self.verbs().current()
+        even = more_even(plan, plan.state.begin, 10_000)
+        offers = offers_of(Swaps(plan), "Grace", 2).offers
+        self.assertTrue(all(day > 1 for offer in offers for day in offer.swap.days))
+        self.assertEqual({cell for cell in even.cells if cell.day < 2}, days)
+        if HAS_CBC:
+            self.does("plan")
+            self.assertEqual({cell for cell in read_state(self.last()).cells if cell.day < 2}, days)
+        self.assertEqual(read_state(self.last()).set_days, ())
+
+    def test_what_follows_in_the_week_is_judged_again(self):
+        # Chen has Late on Wednesday, which may not follow Night.
+        printed = self.does("over", "Chen", "Tue", "Night")
+        self.assertEqual(printed.count("Chen may not work Late on Wed after Night on Tue\n"), 1)
+        self.assertIn("plan again, from Wed 2 Dec on\n", printed)
+        self.assertEqual(read_state(self.last()).open_week, 0)
+
+    def test_days_that_have_not_begun(self):
+        for words in ("Finn Thu off", "Finn Tue off Grace 7.12. ill"):
+            status, _, said = run("plan", self.ward, "over", *words.split())
+            self.assertEqual(status, 1)
+            self.assertRegex(
+                said, "(Thu 3|Mon 7) Dec has not begun: the verb swap, or ill, changes"
+            )
+        self.does("over", "Amara", "Wed", "off")
+
+    def test_a_week_of_which_a_day_is_recorded_ends(self):
+        self.does("over", "Finn", "Tue", "off")
+        with today_is(2026, 12, 7):
+            # A day of the next week is recorded, and no week ends, and then one of the first.
+            printed = self.does("over", "Grace", "7.12.", "off")
+            self.assertIn("to Mon 7 Dec as they are: no week ends\n", printed)
+            self.assertEqual(read_state(self.last()).open_week, 0)
+            printed = self.does("over", "Amara", "Sun", "off")
+        self.assertIn("week 1 (calendar week 49) is over: the plan goes on from Mon 7 Dec", printed)
+        state = read_state(self.last())
+        self.assertEqual((state.open_week, state.begin), (1, 8))
+        with open(self.ward / "tables" / "worked.csv", encoding="utf-8") as file:
+            rows = [line.strip() for line in file]
+        for row in ("Finn,2026-12-01,,,Late", "Amara,2026-12-06,,,Day"):
+            self.assertIn(row, rows)
+        with today_is(2026, 12, 14):
+            self.does("over")
+        with open(self.ward / "tables" / "worked.csv", encoding="utf-8") as file:
+            self.assertIn("Grace,2026-12-07,,,Day\n", list(file))
+
+    def test_the_page_asks_and_says_that_no_week_ends(self):
+        event = Event("over", ("Finn", "Tue", "off"), on_page=True)
+        asked = self.verbs().asked(event).question()
+        self.assertIn("later plans leave all days to Tue 1 Dec as they are: no week ends", asked)
+        self.assertTrue(self.verbs().done(event).is_written)
+        self.assertEqual(read_state(self.last()).open_week, 0)
 
 
 class OlderVersion(PastTest):

@@ -1,5 +1,5 @@
-"""The verb that ends the first week that is not over, as it was worked, or that corrects weeks that
-are over."""
+"""The verb that ends the first week that is not over, as it was worked, or that records how other
+days were worked that have begun."""
 
 import datetime
 from dataclasses import dataclass, replace
@@ -43,8 +43,10 @@ class WeekOver(Outcome):
         return [*said, *(self._goes_on(self.next) if self.next else self._period_over())]
 
     def question(self) -> list[str]:
-        """The corrections, which the user has typed."""
-        return [*self._early(), *(self.corrections.lines() or ["as it was planned"])]
+        """The corrections, which the user has typed, and the week that ends with them."""
+        if not self.corrections.places:
+            return [*self._early(), "as it was planned"]
+        return [*self.corrections.lines(), f"{self._week} is over with this"]
 
     @property
     def plans(self) -> tuple[WardPlan, ...]:
@@ -56,19 +58,18 @@ class WeekOver(Outcome):
         """That the week has not ended."""
         if not self.early:
             return []
-        number = self.old.state.open_week
         last = self.old.days.text(self.old.first + WEEK_DAYS - 1)
         today = f"{self.early:%a} {self.early.day} {self.early:%b}"
-        return [
-            f"{self.old.days.week_text(number)} has not ended: today is {today}, before {last} ends"
-        ]
+        return [f"{self._week} has not ended: today is {today}, before {last} ends"]
+
+    @property
+    def _week(self) -> str:
+        """The week that ends."""
+        return self.old.days.week_text(self.old.state.open_week)
 
     def _goes_on(self, new: WardPlan) -> list[str]:
         """The plan goes on."""
-        begin = (
-            f"{self.old.days.week_text(self.old.state.open_week)} is over: the plan goes on from"
-            f" {new.days.text(new.first)}"
-        )
+        begin = f"{self._week} is over: the plan goes on from {new.days.text(new.first)}"
         return [begin, *follow_lines(self.old, new), *self.pages.lines()]
 
     def _period_over(self) -> list[str]:
@@ -77,10 +78,7 @@ class WeekOver(Outcome):
         before, now = self.following
         begin = f"from {days.monday} on, " if days.monday else ""
         then = "into the sheet plan, with its wishes and absences; then plan"
-        closed = (
-            f"{self.old.days.week_text(self.old.state.open_week)} is over, and with it the"
-            f" {PERIOD_IS_OVER}"
-        )
+        closed = f"{self._week} is over, and with it the {PERIOD_IS_OVER}"
         if before and now:
             goes_on = f"{closed}: the plan goes on from {now.days.text(now.first)}"
             return [goes_on, *follow_lines(before, now), *self.pages.lines()]
@@ -95,7 +93,7 @@ class WeekOver(Outcome):
 
 @dataclass(frozen=True)
 class Corrected(Outcome):
-    """Weeks that are over were worked otherwise; no week ends."""
+    """Days that have begun were worked otherwise; no week ends."""
 
     corrections: Corrections
     # The plan of their period.
@@ -118,31 +116,54 @@ class Corrected(Outcome):
         return [*self._said(), *self.pages.lines()]
 
     def _said(self) -> list[str]:
-        days = self.corrections.old.days
-        weeks = days.weeks_text(sorted(self.corrections.weeks))
+        days, state = self.plan.days, self.plan.state
+        over = [week for week in sorted(self.corrections.weeks) if week < state.open_week]
+        corrects = [f"this corrects {days.weeks_text(over)}"] if over else []
+        if state.recorded:
+            corrects.append(
+                f"later plans leave all days to {days.text(state.begin - 1)} as they are"
+            )
         pairs = ((self.before, self.now), self.following)
         follows = [line for old, new in pairs if old and new for line in follow_lines(old, new)]
-        return [*self.corrections.lines(), f"this corrects {weeks}: no week ends", *follows]
+        ends = f"{', and '.join(corrects)}: no week ends"
+        return list(dict.fromkeys([*self.corrections.lines(), ends, *follows]))
 
 
 def _asked(store: PlanStore, event: Event) -> WeekOver | Corrected:
-    """What the words come to. Days of an older period are looked for in it if the one that runs
-    does not have them, or is not planned yet."""
+    """What the words come to. Days of another period are looked for in it if the one that runs does
+    not have them, or is not planned yet."""
     try:
         old = store.fitting()
-        end = old.first + WEEK_DAYS
-        corrections = corrections_of(old, event, end)
+        corrections = corrections_of(old, event, _begun(store, old))
     except Misuse as fault:
         # Only words about days may be those of another period.
-        found = next(_of_older_periods(store, event), None) if event.words else None
+        found = next(_of_other_periods(store, event), None) if event.words else None
         if found is None or not isinstance(fault, OtherPlan) and _is_planned(store):
             raise
         return found
-    if event.words and old.state.open_week not in corrections.weeks:
-        _check_dates(store, corrections)
-        new = corrections.with_open(old.state.open_week)
-        return Corrected(corrections, new, old, new, store.following(new))
+    is_over = old.state.open_week in corrections.weeks and not _is_early(store, old)
+    if event.words and not is_over:
+        return _recorded(store, old, corrections)
     return _week_over(store, old, corrections)
+
+
+def _begun(store: PlanStore, plan: WardPlan) -> int:
+    """The first day of a plan that has not begun; without dates, after the week that ends next."""
+    if plan.days.monday is None:
+        return plan.first + WEEK_DAYS
+    return (store.means.today() - plan.days.monday).days + 1
+
+
+def _is_early(store: PlanStore, plan: WardPlan) -> bool:
+    """Whether the first week that is not over has not ended by the clock."""
+    return plan.days.monday is not None and _begun(store, plan) <= plan.first + WEEK_DAYS
+
+
+def _recorded(store: PlanStore, old: WardPlan, corrections: Corrections) -> Corrected:
+    """Days of a period that is not over were worked so."""
+    _check_dates(store, corrections)
+    new = corrections.with_open(old.state.open_week)
+    return Corrected(corrections, new, old, new, store.following(new))
 
 
 def _is_planned(store: PlanStore) -> bool:
@@ -158,19 +179,21 @@ def _week_over(store: PlanStore, old: WardPlan, corrections: Corrections) -> Wee
     if not old.weeks:
         raise Misuse("all weeks are over")
     ended = corrections.with_open(old.state.open_week + 1)
-    today = store.means.today()
-    is_early = old.days.monday is not None and old.days.date(old.first + WEEK_DAYS - 1) >= today
     return WeekOver(
         old,
         corrections,
         ended if ended.weeks else None,
         following=store.following(ended),
-        early=today if is_early else None,
+        early=store.means.today() if _is_early(store, old) else None,
     )
 
 
-def _of_older_periods(store: PlanStore, event: Event) -> Iterator[Corrected]:
-    """The corrections of the last period that is over and has their days."""
+def _of_other_periods(store: PlanStore, event: Event) -> Iterator[Corrected]:
+    """The corrections of a later period, or of the last one that is over and has their days."""
+    later = store.of_dates(event.words, plans=False)
+    if later.is_later:
+        plan = later.fitting()
+        yield _recorded(later, plan, corrections_of(plan, event, _begun(later, plan)))
     for plan in store.past_plans():
         named = store.names_since(plan.state)
         names = {named.nurse(nurse): nurse for nurse in plan.scenario.nurses}
@@ -221,8 +244,8 @@ VERB = Verb(
     names=("over",),
     words="[NAME DAY SHIFT ..]",
     effect=(
-        "the week is over, as planned or with these shifts (or off, ill); with days of weeks that"
-        " are over it corrects these, and no week ends"
+        "the week is over, as planned or with these shifts (or off, ill); with days of a week that"
+        " has not ended, or of those before, it records these, and no week ends"
     ),
     asked=_asked,
     done=_done,
@@ -232,7 +255,7 @@ VERB = Verb(
         button="End the week",
         text=(
             "as it was planned, or with corrections such as Chen Fri ill, Finn Sat off; with days"
-            " of weeks that are over it only corrects these"
+            " of a week that has not ended, or of those before, it only records these"
         ),
         refused="the end of the week was not written",
         fields=("corrections",),

@@ -16,7 +16,7 @@ def _first_day(plan: WardPlan, event: Event) -> int:
     wording = wording_of(
         plan, event, "plan, or plan 2026-12-09 to leave all days before it as they are"
     )
-    first = plan.first if wording.is_over else wording.open_day()
+    first = plan.state.begin if wording.is_over else wording.open_day()
     wording.end()
     return first
 

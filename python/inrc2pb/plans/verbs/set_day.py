@@ -267,7 +267,7 @@ def _first_free(plan: WardPlan, day: int) -> int:
     if plan.days.monday is None:
         return day
     tomorrow = (datetime.date.today() - plan.days.monday).days + 1
-    return min(day, max(plan.first, tomorrow))
+    return min(day, max(plan.state.begin, tomorrow))
 
 
 def _promise_text(plan: WardPlan, promise: SetDay) -> str:
