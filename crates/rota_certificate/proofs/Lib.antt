@@ -32,5 +32,6 @@ pub mod SurchargeLists
 pub mod SurchargeSums
 pub mod Tables
 pub mod TreePaths
+pub mod TreeSearch
 pub mod TreeSoundness
 pub mod WeekDays

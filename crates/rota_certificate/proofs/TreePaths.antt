@@ -14,7 +14,6 @@ use Rattle.rota_certificate.specs.CaseLimits.{IsLimited, IsLimitedCase}
 use Rattle.rota_certificate.specs.CasePaths.{CasePath, with, without}
 use Rattle.rota_certificate.specs.NextPaths.{next_path}
 use Rattle.rota_certificate.specs.CertificateBounds.{case_of, least_bound}
-use Rattle.rota_certificate.specs.LeafBounds.{most_bound}
 use Rattle.rota_certificate.specs.Evidence.{IsShortPath}
 use Rattle.rota_certificate.proofs.ListSteps.{all-append, all-reverse, list-more}
 
@@ -160,59 +159,3 @@ case-limited items given path few each = record {
   few = omega (arith, length-append items given, path.few, few);
   each = all-append (λ (one : Condition). IsLimited one.fact) items given path.each each;
 }
-
--- ---- the search for the minimum
-
--- before the node with this index, these are the minimum so far and the conditions of the path
-pub record IsSearched (bound : CasePath → LeafTables → ℕ) (tree : List NodeTables) (i least : ℕ) (items : List Condition) : Type 0 where
-  pub minimum : min least (least_from bound (reverse items) (drop i tree)) ≡ min 18446744073709551615 (least_from bound [] tree)
-  pub path : IsShortPath i items
-
--- no node is searched
-pub searched-none : (bound : CasePath → LeafTables → ℕ) (tree : List NodeTables) (items : List Condition) → items ≡ [] →
-    IsSearched bound tree 0 18446744073709551615 items
-searched-none bound tree [] none = record { minimum = refl; path = record { few = omega arith; each = tt } }
-searched-none bound tree (one ∷ items) none = absurd (cc none)
-
-module _ (bound : CasePath → LeafTables → ℕ) (nodes : List Node) (i least : ℕ) (items : List Condition) (node : Node) (inside : i < length nodes)
-    (is : node ≡ slice_index_or nodes i node) (searched : IsSearched bound (map node_of nodes) i least items) where
-  abbrev tree : List NodeTables
-  tree = map node_of nodes
-
-  pub after-split : (fact : Fact) (after : List Condition) → node_of node ≡ split_by fact → IsLimited fact → after ≡ items ++ (with fact ∷ []) →
-      IsSearched bound tree (i + 1) least after
-  after-split fact after split limited pushed =
-      let same = least-split bound (reverse items) tree i (node_of node) (kept-inside nodes i node inside is) (kept-at nodes i node inside is) fact split ∙
-      ap (λ (path : CasePath). least_from bound path (drop (i + 1) tree)) (sym (reverse-push after items (with fact) pushed)) in
-      record {
-        minimum = ap (min least) (sym same) ∙ searched.minimum;
-        path = record {
-          few = omega (arith, ap length pushed, length-append items (with fact ∷ []), searched.path.few);
-          each = subst (AllByRecursion (λ (one : Condition). IsLimited one.fact)) (sym pushed)
-              (all-append (λ (one : Condition). IsLimited one.fact) items (with fact ∷ []) searched.path.each (limited, tt));
-        };
-      }
-
-  pub after-leaf : (leaf : LeafTables) (after : List Condition) (found : ℕ) → node_of node ≡ leaf_with leaf →
-      next_path (reverse items) ≡ Some (reverse after) → found ≡ bound (reverse items) leaf → IsSearched bound tree (i + 1) (min least found) after
-  after-leaf leaf after found is_leaf next is_bound =
-      let same = least-later bound (reverse items) tree i (node_of node) (kept-inside nodes i node inside is) (kept-at nodes i node inside is) leaf
-      (reverse after) is_leaf next in
-      let short = path-short i items after next searched.path in
-      record {
-        minimum = omega (arith, same, is_bound, searched.minimum);
-        path = record { few = omega (arith, short.few); each = short.each };
-      }
-
-  pub at-last : (leaf : LeafTables) (found : ℕ) → node_of node ≡ leaf_with leaf → next_path (reverse items) ≡ None →
-      found ≡ bound (reverse items) leaf → found ≤ most_bound → min least found ≡ least_from bound [] tree
-  at-last leaf found is_leaf none is_bound small =
-      let last = least-last bound (reverse items) tree i (node_of node) (kept-inside nodes i node inside is) (kept-at nodes i node inside is) leaf
-      is_leaf none in
-      omega (arith, last, is_bound, searched.minimum, small)
-
-pub at-end : (bound : CasePath → LeafTables → ℕ) (nodes : List Node) (i least : ℕ) (items : List Condition) → length nodes ≤ i →
-    IsSearched bound (map node_of nodes) i least items → 0 ≡ least_from bound [] (map node_of nodes)
-at-end bound nodes i least items past searched =
-    let past_tree : length (map node_of nodes) ≤ i = omega (arith, length-map nodes node_of, past) in
-    omega (arith, least-end bound (reverse items) (map node_of nodes) i past_tree, searched.minimum)

@@ -1,6 +1,6 @@
 //! The part of a past on which the charges depend.
 
-ghost use Rattle.std.specs.Prelude.{◌≡◌, ◌-◌, ◌<◌};
+ghost use Rattle.std.specs.Prelude.{◌≡◌, ◌-◌};
 ghost use Rattle.rota_certificate.specs.Nearness.{IsNear};
 ghost use Rattle.rota_certificate.specs.Stages.{days_before, least_in, week_of};
 

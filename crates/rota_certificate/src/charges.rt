@@ -1,6 +1,6 @@
 //! The charges of a nurse day by day, and her past after a day.
 
-ghost use Rattle.std.specs.Prelude.{◌≡◌, ℕ, ◌+◌, ◌≤◌, ◌<◌, IfSome, is_some};
+ghost use Rattle.std.specs.Prelude.{◌≡◌, ℕ, ◌+◌, ◌≤◌, ◌<◌, IfSome};
 ghost use Rattle.rota_core.specs.InstanceTables.{problem_of};
 ghost use Rattle.rota_certificate.specs.DayCharges.{assignment_above, fixed_charge, missing_total, over_charge, past_after, requests_against};
 ghost use Rattle.rota_certificate.specs.DayCharges.{run_charge, run_on, shift_charges, under_charge, weekend_above, weekend_charge, weekend_on};

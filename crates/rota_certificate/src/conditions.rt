@@ -1,6 +1,6 @@
 //! Whether the rosters of some weeks meet conditions.
 
-ghost use Rattle.std.specs.Prelude.{◌≡◌, ◌<◌, MatchOption, length};
+ghost use Rattle.std.specs.Prelude.{◌≡◌, MatchOption, length};
 ghost use Rattle.rota_core.specs.Certificates.{AreConditionsFor, IsChargeLimitFor, IsFactFor};
 ghost use Rattle.rota_core.specs.HardRules.{nurses_at};
 ghost use Rattle.rota_core.specs.InstanceTables.{problem_of};

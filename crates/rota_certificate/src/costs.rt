@@ -1,6 +1,6 @@
 //! The costs of a nurse's days by her tariff, and of her totals at the start and at the end.
 
-ghost use Rattle.std.specs.Prelude.{◌≡◌, ◌+◌, ◌*◌, ◌≤◌, ◌<◌, IfSome};
+ghost use Rattle.std.specs.Prelude.{◌≡◌, ◌*◌, ◌≤◌, ◌<◌, IfSome};
 ghost use Rattle.rota_certificate.specs.DayCharges.{start_cost, totals_cost, weighted};
 ghost use Rattle.rota_certificate.specs.Minimums.{not_allowed};
 ghost use Rattle.rota_certificate.specs.NurseBounds.{end_cost};

@@ -1,6 +1,6 @@
 //! The bounds of the places in a case. `unit` is the value of a point.
 
-ghost use Rattle.std.specs.Prelude.{◌≡◌, ◌≤◌, ◌<◌, ◌*◌};
+ghost use Rattle.std.specs.Prelude.{◌≡◌, ◌≤◌, ◌*◌};
 ghost use Rattle.rota_core.specs.Limits.{max_weeks};
 ghost use Rattle.rota_core.specs.SumsBelow.{sum_below};
 ghost use Rattle.rota_core.specs.WeekTables.{IsDemand};

@@ -1,11 +1,10 @@
 //! The cost of a nurse's charges in a leaf.
 
-ghost use Rattle.std.specs.Prelude.{◌≡◌, ◌*◌, ◌+◌, ◌≤◌, None, Some, false, if◌then◌else◌};
+ghost use Rattle.std.specs.Prelude.{◌≡◌, ◌*◌, ◌≤◌, None, Some, false, if◌then◌else◌};
 ghost use Rattle.std.specs.Option.{option_map_or};
 ghost use Rattle.rota_core.specs.Limits.{max_price};
 ghost use Rattle.rota_certificate.specs.CaseLimits.{AreLimitedCharges, IsLimited, most_conditions};
 ghost use Rattle.rota_certificate.specs.Tariffs.{added, added_by, forbidden_by, gained, gained_by, has_overdrawn_weight, is_forbidden, is_overdrawn, limit_of, lost, lost_by, points_of, taken, taken_by, tariff_of, weight};
-ghost use Rattle.rota_certificate.specs.declared.limits.Limit.{Limit};
 
 use crate::limits::{Limit, counts, forbids, limit_of};
 use crate::points::PointValue;
