@@ -1,5 +1,5 @@
 //! The ports that bytes come from and go to.
-ghost use Rattle.std.specs.Prelude.{◌≡◌, ℕ, ◌<◌, ◌≤◌, Bool, ◌||◌, Option, List, Some, codes, length, is_err, true, false, IsErr, IsOk, IfOk, IfErr, OnOk, MatchResult};
+ghost use Rattle.std.specs.Prelude.{◌≡◌, ℕ, ◌<◌, ◌≤◌, Bool, ◌||◌, Option, Some, codes, length, is_err, true, false, IsErr, IsOk, IfOk, IfErr, OnOk};
 ghost use Rattle.byte_ports.specs.Ports.{KnownBytes, known_len};
 ghost use Rattle.byte_ports.specs.PortCalls.{LeavesAfterRead, SendsOnWrite, says_end};
 

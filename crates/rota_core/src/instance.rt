@@ -1,6 +1,6 @@
 //! An instance: one week of a rostering problem and the history of the weeks before.
 
-ghost use Rattle.std.specs.Prelude.{◌≡◌, ◌<◌, ◌≤◌, ◌↔◌, None, IfOk, IfErr, IfSome, IsErr, All, length};
+ghost use Rattle.std.specs.Prelude.{◌≡◌, ◌<◌, ◌≤◌, ◌↔◌, None, IfOk, IfErr, IsErr, All, length};
 ghost use Rattle.rota_core.specs.Limits.{Within};
 
 use crate::fault::{FileFault, FileName, Kind};
