@@ -36,6 +36,7 @@ import again  # noqa: E402
 import build  # noqa: E402
 import one_by_one  # noqa: E402
 import record  # noqa: E402
+import sources  # noqa: E402
 from edit import Edit, edits_of  # noqa: E402
 from prover import ROOMS  # noqa: E402
 from record import Entry  # noqa: E402
@@ -75,7 +76,7 @@ def crates_with_edits(names: List[str]) -> Tuple[Dict[str, build.Crate], List[st
 
 def plan(crates: Dict[str, build.Crate], names: List[str], anew: bool) -> Plan:
     """Which edits of the crates of these names are to be tried."""
-    sums = build.sums_of_sources(crates)
+    sums = sources.sums(crates)
     judge = record.sum_of_judge()
     made = Plan({}, [], {}, {})
     for name in names:

@@ -6,9 +6,9 @@ reason is an answer that no longer fits:
 
     sign_ends_no_word 5f0c.. rota_layout::cursor::token_len returns-else-is_sign-clause-token
 
-An edit has a line for each goal. Its checksum is of the edit's text, of the sources of the crate and
-of those below it, the kit and HANDLES, as build.py has it, and of the programs of this folder, which
-judge what the prover says: after any change of these the edit is tried again.
+An edit has a line for each goal. Its checksum is of the edit's text, of what its crate depends on,
+as sources.py has it, and of the programs of this folder, which judge what the prover says. After a
+change of any of these the edit is tried again.
 """
 
 import hashlib

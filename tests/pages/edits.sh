@@ -197,10 +197,6 @@ planted_records() {
     tries 'a record of two checksums for an edit' 0 '5 passed, 0 failed'
     tells '2 tried, 3 taken from the record'
     writes
-    echo 'another contract' >> "$ward/crates/base/src/lib.rt"
-    tries 'a change below' 0 '5 passed, 0 failed'
-    tells '5 tried, 0 taken from the record'
-    writes
     echo 'another contract' >> "$ward/crates/upper/src/lib.rt"
     tries 'a change above' 0 '5 passed, 0 failed'
     tells '4 tried, 1 taken from the record'
@@ -208,6 +204,37 @@ planted_records() {
     echo '# another mistake' >> "$ward/crates/upper/must-fail/first_left_out.edit"
     tries 'a changed edit' 0 '5 passed, 0 failed'
     tells '1 tried, 4 taken from the record'
+    writes
+}
+
+# changes_below FILE TRIED: after a change of this file of `base` so many of the five edits are tried: one is of `base`, and four are of `upper`.
+changes_below() {
+    mkdir -p "$(dirname "$ward/crates/base/$1")"
+    echo 'another line' >> "$ward/crates/base/$1"
+    tries "a change below, of $1" 0 '5 passed, 0 failed'
+    tells "$2 tried, $((5 - $2)) taken from the record"
+    writes
+}
+
+# What a crate above can cite counts for its edits, too; the proof of a function counts for those of its own crate alone.
+records_below() {
+    local file cited='cites the proof of a function, and the records do not see its changes: give the lemma a module of its own'
+    for file in src/lib.rt specs/Words.antt specs/Answers.antt proofs/Lemmas.antt; do
+        changes_below "$file" 5
+    done
+    changes_below proofs/lib/first/Answers.antt 1
+    changes_below proofs/lib/first/Invariants.antt 1
+    mkdir "$ward/crates/upper/proofs"
+    echo 'use Rattle.base.specs.Answers.{word}' > "$ward/crates/upper/proofs/Lemmas.antt"
+    tries 'definitions of that name' 0 '5 passed, 0 failed'
+    writes
+    echo 'use Rattle.base.proofs.lib.first.Answers.{lemma}' > "$ward/crates/upper/proofs/Lemmas.antt"
+    tries 'a lemma of the proof of a function' 1 "edits: crates/upper/proofs/Lemmas.antt $cited"
+    rm -r "$ward/crates/upper/proofs"
+    edit upper lemma_cited 'right third' 'wrong third, using(base::proofs::lib::first::Answers::lemma)'
+    tries 'an edit that takes such a lemma' 1 "edits: crates/upper/must-fail/lemma_cited.edit $cited"
+    rm "$ward/crates/upper/must-fail/lemma_cited.edit"
+    tries 'no such lemma' 0 '5 passed, 0 failed'
     writes
 }
 
@@ -359,6 +386,7 @@ first_tries
 over_built_libraries
 planted_edits
 planted_records
+records_below
 another_judge
 tried_again
 ended_checks
