@@ -2,13 +2,9 @@
 """The laws of the crates: public calls without parameters and result, whose contracts are
 statements about definitions.
 
-    tests/pages/laws.py            prints the table of docs/promises.md
-    tests/pages/laws.py all        prints every law
-    tests/pages/laws.py compare    compares the table of docs/promises.md, and the names in
-                                   tests/pages/laws.txt, with the crates, and fails if they
-                                   differ, so that no law goes unseen
-
-A row has the name of a law and the first sentence of its comment.
+    tests/pages/laws.py            prints every law: its name, and the first sentence of its comment
+    tests/pages/laws.py compare    compares the names in tests/pages/laws.txt with the crates, and
+                                   fails if they differ, so that no law goes unseen
 """
 import re
 import sys
@@ -16,16 +12,7 @@ from pathlib import Path
 from typing import List, NamedTuple
 
 TOP = Path(__file__).resolve().parents[2]
-PAGE = TOP / "docs" / "promises.md"
 NAMES = TOP / "tests" / "pages" / "laws.txt"
-HEAD = "| law | statement |\n|---|---|\n"
-
-# The laws on the page, which link the rules, the model and a bound. Those that it prints itself, of the
-# programs and their files, are not in its table, nor are those that serve others.
-ON_THE_PAGE = (
-    "certificate_bound_is_sound",
-    "min_objective_is_min_penalty",
-)
 CRATES_OF_TESTS = ("call_tests", "run_tests", "call_report", "who_fits")
 
 LAW = re.compile(r"((?:^///.*\n)+)(?:^#\[.*\n)*^pub fn (\w+)(?:<[^()]*>)?\(\)\n", re.MULTILINE)
@@ -55,27 +42,17 @@ def laws() -> List[Law]:
     return found
 
 
-def table(chosen: List[Law]) -> str:
-    return HEAD + "".join(f"| `{law.name}` | {law.statement} |\n" for law in chosen)
-
-
 def main(words: List[str]) -> int:
     every = laws()
-    on_page = table([law for law in every if law.name in ON_THE_PAGE])
     if words == ["compare"]:
         differ = {law.name for law in every} ^ set(NAMES.read_text().split())
         if differ:
             print(f'{NAMES.relative_to(TOP)} and the crates differ in {", ".join(sorted(differ))}')
             return 1
-        if on_page not in PAGE.read_text():
-            print(
-                f"{PAGE.relative_to(TOP)}: the table of laws is not the one that"
-                " tests/pages/laws.py prints"
-            )
-            return 1
         print(f"laws.py: {len(every)} laws")
         return 0
-    print(table(every) if words == ["all"] else on_page, end="")
+    for law in every:
+        print(f"{law.name}: {law.statement}")
     return 0
 
 

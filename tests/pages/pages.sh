@@ -1,7 +1,7 @@
 #!/usr/bin/env bash
 # Checks the pages: runs each shell block, in the order of its page, in a copy of the repository, and compares its output with
 # the block of `text` that follows it, or its words with those of a `text example`, whose figures depend on the clock. Checks the links
-# between the pages, that the paths answer the questions of their readers within their words, the costs that README.md shows, the table of laws, that the code on a
+# between the pages, that the paths answer the questions of their readers within their words, the costs that README.md shows, the list of laws, that the code on a
 # page is in a crate, and that the pages exist which sources and scripts name.
 #
 #   tests/pages/pages.sh [llvm | rattle | PROGRAM [PAGE..]]
@@ -206,7 +206,7 @@ named_pages_exist
 mistakes_of_paths_are_named
 begins_case "the words of the paths, and their readers' questions"
 python3 tests/pages/paths.py > "$room/questions" || complain "$(cat "$room/questions")"
-begins_case 'the laws in docs/promises.md'
+begins_case 'the list of laws'
 python3 tests/pages/laws.py compare > "$room/laws" || complain "$(cat "$room/laws")"
 shows_costs
 finish
