@@ -97,12 +97,12 @@ RESTING = {
 BOUND_BELIEFS = [
     (
         "A bound holds for all rosters, and a given penalty is right.",
-        "list 6, some of 1 and 2",
+        "list 6, and what it names of 1 and 2",
         (CRATES / RESTING["The meaning of a bound"][0], RESTING["The meaning of a bound"][1]),
     ),
     (
         "All of `inrc2pb-bound` keeps its promise.",
-        "lists 6 to 8, some of 1 to 5",
+        "lists 6 to 8, and what they name of 1 to 5",
         (CRATES / RESTING["A proved bound"][0], RESTING["A proved bound"][1]),
     ),
 ]
