@@ -53,7 +53,7 @@ TYPED = r"(bench|certified|tests/edits|tests/kit)/.*\.py|build\.py"
 SCRIPTS = {
     "tests/pages/repository.sh": r"(crates|examples|bench|package|tests/pages|tests/edits|\.ci)/.*"
     r"|python/(launcher|inrc2pb-).*|(CHANGELOG|CONTRIBUTING)\.md"
-    r"|docs/(benchmark|build|changing|layers|serving|trusted)\.md|.*\.sh",
+    r"|docs/(benchmark|build|changing|layers|rule_places|serving|trusted)\.md|.*\.sh",
     "tests/pages/reading.sh": r"crates/.*|docs/(definitions|reading)\.md|tests/pages/.*\.py",
     "tests/pages/guards.sh": r"tests/pages/.*\.py",
     "tests/pages/build.sh": r"build\.py",

@@ -3,10 +3,11 @@
 
 usage: places.py
 
-  CONTRIBUTING.md   shows an edit and a line of the record as they are
-  docs/changing.md  has files that exist, and names that are in the files of their row; its lists
-                    of files are those that the commands above them print
-  docs/layers.md    draws each crate above those that it names
+  CONTRIBUTING.md      shows an edit and a line of the record as they are
+  docs/changing.md     has files that exist, and names that are in the files of their row; its lists
+                       of files are those that the commands above them print
+  docs/rule_places.md  has such files and names, too
+  docs/layers.md       draws each crate above those that it names
 
 The numbers of crates are right. Prints each difference, and ends with status 1 if there is one.
 """
@@ -22,6 +23,7 @@ import soft_rules
 ROOT = Path(__file__).resolve().parents[2]
 CONTRIBUTING = (ROOT / "CONTRIBUTING.md").read_text()
 CHANGING = (ROOT / "docs" / "changing.md").read_text()
+RULE_PLACES = (ROOT / "docs" / "rule_places.md").read_text()
 LAYERS = (ROOT / "docs" / "layers.md").read_text()
 
 # The edit that CONTRIBUTING.md shows, and the one whose line of the record it shows.
@@ -101,14 +103,15 @@ def paths_in(cells: List[str]) -> List[str]:
 
 def rows() -> List[List[str]]:
     """The cells of the rows of tables, after an empty one."""
-    return [line.split("|") for line in CHANGING.splitlines() if line.startswith("| ")]
+    lines = [*CHANGING.splitlines(), *RULE_PLACES.splitlines()]
+    return [line.split("|") for line in lines if line.startswith("| ")]
 
 
 def missing_files() -> Iterator[str]:
     """Files of tables that do not exist."""
     for path in (path for cells in rows() for path in paths_in(cells)):
         if not found(path):
-            yield f"docs/changing.md: there is no {path}"
+            yield f"a table of places: there is no {path}"
 
 
 def missing_names() -> Iterator[str]:
@@ -118,7 +121,7 @@ def missing_names() -> Iterator[str]:
         texts = [file.read_text() for path in paths_in([files]) for file in found(path)]
         word = re.compile(rf"(?<![\w-]){re.escape(name)}(?![\w-])")
         if texts and not any(map(word.search, texts)):
-            yield f"docs/changing.md: {name} is in none of {files.strip()}"
+            yield f"a table of places: {name} is in none of {files.strip()}"
 
 
 def wrong_lists() -> Iterator[str]:
