@@ -29,8 +29,8 @@ LAYERS = (ROOT / "docs" / "layers.md").read_text()
 # The edit that CONTRIBUTING.md shows, and the one whose line of the record it shows.
 EDIT = ROOT / "crates/rota_items/must-fail/complete_weekend_charged.edit"
 RECORD, RECORDED = ROOT / "crates/rota_layout/edits.txt", "sign_ends_no_word"
-# These files have the words of a search because they are about it.
-ABOUT = {"docs/changing.md", "tests/pages/questions.txt"}
+# This page has the words of its searches itself.
+ABOUT = {"docs/changing.md"}
 # The column of docs/layers.md in which the words about a floor begin.
 WORDS = 69
 
