@@ -5,7 +5,8 @@
 
 `ward` is the pictures of the ward of docs/your_ward.md, by headless Chromium: docs/sheet.png and
 docs/sheets.png, its spreadsheet; docs/wall.png, its first plan as it hangs on the wall; and
-docs/page.png, its page after an illness is reported. `search` is docs/search.svg, the penalty and the
+docs/page.png, its page with a nurse's day. The plan is printed and its folder kept, so that the
+lines which the page shows after it can be typed for the same plan. `search` is docs/search.svg, the penalty and the
 bound during a search for four weeks of 12 nurses. `tree` is docs/tree.svg, the cases of the month's
 certificate. All need the programs that `make` leaves in out.
 """
@@ -36,7 +37,6 @@ TREE = DOCS / "tree.svg"
 # The day on which the ward of the page is made, and the day and the nurse that are clicked.
 MADE = datetime.date(2026, 11, 28)
 CLICKED = "nurse=Dilek&day=2"
-SECONDS = 20
 # The windows of the pictures.
 WINDOWS = {"sheet": "1240,215", "sheets": "915,605", "wall": "1230,390", "page": "1366,740"}
 MOST_BYTES = 180_000
@@ -118,36 +118,37 @@ def files(folder: Path, weeks: int, histories: int = 1) -> list[str]:
 
 
 def draw_ward() -> None:
-    """Draws the spreadsheet, the wall and the page of a ward."""
-    with tempfile.TemporaryDirectory() as folder:
-        ward = Path(folder, "my ward")
-        new(ward, MADE)
-        for name, sheets in {
-            "sheet": [Sheet("plan", 11)],
-            "sheets": [
-                Sheet("shifts", 5),
-                Sheet("contracts", 9),
-                Sheet("nurses", 12),
-                Sheet("needs", 10),
-            ],
-        }.items():
-            page = Path(folder, f"{name}.html")
-            page.write_text(page_of_sheets(ward / "ward.ods", sheets), encoding="utf-8")
-            shoot(page.as_uri(), name)
-        for verb in (["plan", "--time", str(SECONDS)], ["page", "--do"]):
-            run("inrc2pb-plan", "my ward", *verb, folder=folder)
-        shoot((ward / "wall.html").as_uri(), "wall")
-        with subprocess.Popen(
-            ["inrc2pb-plan", "my ward", "serve"],
-            cwd=folder,
-            env=programs(),
-            stdout=subprocess.PIPE,
-            text=True,
-        ) as server:
-            assert server.stdout
-            address = next(line for line in server.stdout if "http://" in line).split()[-1]
-            shoot(f"{address}?{CLICKED}", "page")
-            server.terminate()
+    """Draws the spreadsheet, the wall and the page of a ward, whose folder is kept."""
+    folder = tempfile.mkdtemp(prefix="pictures-")
+    ward = Path(folder, "my ward")
+    new(ward, MADE)
+    for name, sheets in {
+        "sheet": [Sheet("plan", 11)],
+        "sheets": [
+            Sheet("shifts", 5),
+            Sheet("contracts", 9),
+            Sheet("nurses", 12),
+            Sheet("needs", 10),
+        ],
+    }.items():
+        page = Path(folder, f"{name}.html")
+        page.write_text(page_of_sheets(ward / "ward.ods", sheets), encoding="utf-8")
+        shoot(page.as_uri(), name)
+    print(run("inrc2pb-plan", "my ward", "plan", folder=folder).stdout)
+    run("inrc2pb-plan", "my ward", "page", "--do", folder=folder)
+    shoot((ward / "wall.html").as_uri(), "wall")
+    with subprocess.Popen(
+        ["inrc2pb-plan", "my ward", "serve"],
+        cwd=folder,
+        env=programs(),
+        stdout=subprocess.PIPE,
+        text=True,
+    ) as server:
+        assert server.stdout
+        address = next(line for line in server.stdout if "http://" in line).split()[-1]
+        shoot(f"{address}?{CLICKED}", "page")
+        server.terminate()
+    print(f"type the other lines of docs/your_ward.md in {folder}")
 
 
 def searched() -> dict[str, list[Value]]:
