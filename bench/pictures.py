@@ -36,7 +36,7 @@ SEARCH = DOCS / "search.svg"
 TREE = DOCS / "tree.svg"
 # The day on which the ward of the page is made, and the day and the nurse that are clicked.
 MADE = datetime.date(2026, 11, 28)
-CLICKED = "nurse=Dilek&day=2"
+CLICKED = "nurse=Finn&day=2"
 # The windows of the pictures.
 WINDOWS = {"sheet": "1240,215", "sheets": "915,605", "wall": "1230,390", "page": "1366,740"}
 MOST_BYTES = 180_000
