@@ -208,10 +208,11 @@ class Actions:
         """She is away, from this day to another one."""
         if self._is_away:
             return None
-        later = range(self._place.day + 1, self._plan.days.total)
+        days = self._plan.ward.longer
+        later = range(self._place.day + 1, days.total)
         choices = [
             ("", "this day only"),
-            *((self._plan.days.head(day), f"to {self._plan.days.text(day)}") for day in later),
+            *((days.head(day), f"to {days.text(day)}") for day in later),
         ]
         options = [element("option", text, value=value) for value, text in choices]
         fields = {

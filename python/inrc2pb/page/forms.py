@@ -218,7 +218,8 @@ def _question(form: Form, fields: Fields, plan: WardPlan | None) -> str:
 
 def _shown(plan: WardPlan, value: str) -> str:
     """The value of a field; a day as in sentences."""
-    heads = {plan.days.head(day): plan.days.text(day) for day in range(plan.days.total)}
+    days = plan.ward.longer
+    heads = {days.head(day): days.text(day) for day in range(days.total)}
     return heads.get(value, value)
 
 
@@ -267,8 +268,9 @@ def _input(name: str, plan: WardPlan, kept: str, seconds: float) -> Markup:
         case "nurse" | "other":
             choices = [(nurse, readable(nurse)) for nurse in plan.scenario.nurses]
         case _:
-            days = range(plan.state.begin, plan.days.total)
-            choices = [(plan.days.head(day), plan.days.text(day)) for day in days]
+            shown = plan.ward.longer if name == "last" else plan.days
+            days = range(plan.state.begin, shown.total)
+            choices = [(shown.head(day), shown.text(day)) for day in days]
     options = [
         element("option", text, value=value, selected="" if value and value == kept else None)
         for value, text in [("", _EMPTY.get(name, "choose")), *choices]

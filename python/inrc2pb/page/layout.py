@@ -122,6 +122,7 @@ def page_markup(plan: WardPlan | None, shown: Shown, address: str) -> str:
     ]
     if shown.asks:
         panel.append(sure_markup(shown.asks, plan, address, shown.seen, shown.lines))
+        panel += _gives_up(said, shown, address)
     elif plan and not said.runs:
         if shown.place and plan.is_planned:
             panel.append(Actions(plan, shown.place, address, shown.stamp, shown.agreed).markup())
@@ -276,6 +277,17 @@ def _said(said: Said, shown: Shown, address: str) -> list[Markup]:
         *write,
         *undo,
     ]
+
+
+def _gives_up(said: Said, shown: Shown, address: str) -> list[Markup]:
+    """Beside the question whether to write an absence a button for another plan, if the next period
+    could give shifts up."""
+    look = said.look
+    if not (look and look.gives_up and isinstance(look.cause, Away)) or "write it" in said.fields:
+        return []
+    asked = {name: value for name, value in said.fields.items() if value}
+    fields = {**asked, "write it": "yes", STAMP: shown.stamp}
+    return [button_markup(fields, "The next period gives that up", address)]
 
 
 def _worked(shown: Shown) -> list[tuple[str, str]]:

@@ -2,7 +2,7 @@
 and for who is back share them, and so does the end of a week."""
 
 from dataclasses import dataclass
-from typing import Iterable
+from typing import Callable, Iterable
 
 from ..judging.leave import ILL, TRAINING
 from ..sheets.written_days import BACK, lost_shifts
@@ -12,6 +12,11 @@ from ..week.words import readable
 from .sentences import exceeded_lines
 from .verb import Outcome, Status
 from .ward import ALWAYS_OFF, DAYS_OFF, WardPlan
+
+
+def _ends(_plan: WardPlan) -> "Away | None":
+    """It has no days in the next period."""
+    return None
 
 
 @dataclass(frozen=True)
@@ -26,6 +31,8 @@ class Away(Outcome):
     word: str
     # The reason that she had who is back.
     was: str = ""
+    # How it goes on in the plan of the next period, if it does.
+    goes_on: Callable[[WardPlan], "Away | None"] = _ends
 
     @property
     def there(self) -> WardPlan:

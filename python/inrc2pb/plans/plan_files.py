@@ -48,6 +48,10 @@ _LEAST = "least points"
 _MOST_POINTS = 10**9
 _SWAP = "swap"
 _RECORDED = "days recorded"
+_GOES_ON = "with the one before"
+# All names of a plan, and those that an older version may not have.
+_NAMES = "verb,time,monday,weeks,weeks over,published,days away,agreed days".split(",")
+_NEWER = (_SET, _TYPED, _PERIOD, _OPEN, _WAS, _HOLIDAYS, _LEAST, _SWAP, _RECORDED, _GOES_ON)
 # The most periods of a folder.
 _MOST_PERIODS = 9999
 
@@ -80,6 +84,7 @@ def record_text(record: Record) -> str:
         **({} if record.least is None else {_LEAST: record.least}),
         **({_SWAP: [list(place) for place in record.swap.places]} if record.swap else {}),
         **({_RECORDED: record.recorded} if record.recorded else {}),
+        **({_GOES_ON: True} if record.goes_on else {}),
     }
     lines = [
         f"  {json.dumps(name)}: {json.dumps(value, ensure_ascii=False)}"
@@ -145,27 +150,8 @@ class _Changed(ValueError):
 
 
 def _record_of(values: Any) -> Record:
-    names = (
-        "verb",
-        "time",
-        "monday",
-        "weeks",
-        "weeks over",
-        "published",
-        "days away",
-        "agreed days",
-        _SET,
-        _TYPED,
-        _PERIOD,
-        _OPEN,
-        _WAS,
-        _HOLIDAYS,
-        _LEAST,
-        _SWAP,
-        _RECORDED,
-    )
-    newer = {_SET, _TYPED, _PERIOD, _OPEN, _WAS, _HOLIDAYS, _LEAST, _SWAP, _RECORDED}
-    if not isinstance(values, dict) or {*newer, *values} != set(names):
+    names = (*_NAMES, *_NEWER)
+    if not isinstance(values, dict) or {*_NEWER, *values} != set(names):
         raise _Changed(f"it has not the names {', '.join(names)}")
     values = {_SET: [], _TYPED: "", _OPEN: [], _WAS: [], _HOLIDAYS: [], _SWAP: [], **values}
     monday = values["monday"]
@@ -183,7 +169,7 @@ def _record_of(values: Any) -> Record:
         _time(values, "time", "%Y-%m-%d %H:%M"),
         days,
         open_week=open_week,
-        published=_taken(values, "published", lambda value: isinstance(value, bool)),
+        published=_taken(values, "published", _is_truth),
         absences=tuple(DayWord(*row) for row in absences),
         agreed=tuple(NurseDay(*row) for row in agreed),
         set_days=tuple(SetDay(*(row if len(row) > 3 else [*row, None])) for row in set_days),
@@ -204,6 +190,7 @@ def _record_of(values: Any) -> Record:
         ),
         swap=_swap_of(_rows(values, _SWAP, [_is_text, is_day]), values["verb"], days),
         recorded=_taken({_RECORDED: 0, **values}, _RECORDED, _is_number_to(days.total)),
+        goes_on=_taken({_GOES_ON: False, **values}, _GOES_ON, _is_truth),
     )
 
 
@@ -217,6 +204,10 @@ def _swap_of(rows: Sequence[Sequence[Any]], verb: str, days: PlanDays) -> Swap |
     heads = f" {' '.join(words[2:])} "
     swapped = tuple(day for day in range(days.total) if f" {days.head(day)} " in heads)
     return Swap(words[0], words[1], swapped) if name == "swap" and swapped else None
+
+
+def _is_truth(value: object) -> bool:
+    return isinstance(value, bool)
 
 
 def _is_text(value: object) -> bool:

@@ -1,7 +1,7 @@
 """What a search of the planner has found, or why it has found nothing, in sentences."""
 
 from dataclasses import dataclass
-from typing import Mapping, Protocol
+from typing import Mapping, Protocol, Sequence
 
 from ..search.why_none import CAN, Shortage, kept_no_absence_lines, lowered_text, shortage_head
 from ..sheets.open_shifts import number_of
@@ -32,6 +32,9 @@ from .ward import BeforeAndAfter, WardPlan, for_leavers
 
 UNKNOWN_BOUND = "how much less another plan can cost is not known"
 
+MAY_GIVE_UP = (
+    "and the next period gives up what it has to, or with --open, and these shifts stay open"
+)
 OF_OLDER_SHEET = (
     "the spreadsheet was saved during the search, so this plan is not written: ask for it again"
 )
@@ -77,15 +80,45 @@ class Planned(Outcome):
     gives_up: tuple[str, ...] = ()
     # What nurses had in the year before it.
     last_year: LastYear = LastYear()
+    # The plan of the next period that the same verb has made, if there is one.
+    then: "Planned | None" = None
+    # Whether it is asked first whether the next period gives up what it would have to.
+    asks_next: bool = False
+
+    @property
+    def parts(self) -> "Sequence[Planned]":
+        """The plans of the verb, one for each period."""
+        return [self, *(self.then.parts if self.then else ())]
 
     def lines(self, write: str = "") -> list[str]:
-        """What a new plan does not keep, changes and costs, its bound, and whether it is
+        """What the new plans do not keep, change and cost, their bounds, and whether they are
         written."""
+        said = self._found()
+        for part in self.parts[1:]:
+            said += [f"the period from {part.plan.days.text(0)} on:", *part._found()]
+        if self.is_look:
+            return [*said, f"nothing is written: {write}"] if write else said
+        if self.is_of_older_sheet:
+            return [*said, OF_OLDER_SHEET]
+        if self.asks_next:
+            return [*said, f"nothing is written: {write}, {MAY_GIVE_UP}"]
+        if not self.is_written:
+            away = [line for part in self.parts for line in days_away_lines(part.plan)]
+            return [*said, *away, not_written_text(write)]
+        if any(unkept(part.plan) for part in self.parts):
+            said.append(
+                "this plan is written, but it does not keep what the first lines say: do what helps"
+                " and plan again, or undo"
+            )
+        return [*said, *self.pages.lines()]
+
+    def _found(self) -> list[str]:
+        """What one of the plans does not keep, changes and costs, and its bound."""
         new = self.plan
         missing = unkept(self.plan)
         said = self.cause.heads(self.is_look) if self.cause else []
         said += [*all_open_lines(new), *unkept_lines(new, missing)]
-        if self.may_be_open:
+        if while_away(new):
             said.append("with --open these shifts stay open, and who is away does not work")
         if len(missing) > len(unkept(for_leavers(new, self.asked.first))):
             said.append(
@@ -100,7 +133,8 @@ class Planned(Outcome):
             *wish_lines(self.before, new),
             *cost_lines(self.penalties, new.days),
         ]
-        said += [*next_period_lines(*self.following), *self.gives_up]
+        said += [] if self.then else next_period_lines(*self.following)
+        said += self.gives_up
         said += price_lines(self.before, new) if self.before and self.asked.is_firm else []
         said += evenness_lines(new, self.last_year)
         if not missing and not self.asked.few_changes:
@@ -109,23 +143,12 @@ class Planned(Outcome):
                 said.append("This holds if the period before it ends as planned.")
         if self.is_stopped:
             said.append("stopped: this is the best plan until then")
-        if self.is_look:
-            return [*said, f"nothing is written: {write}"] if write else said
-        if self.is_of_older_sheet:
-            return [*said, OF_OLDER_SHEET]
-        if not self.is_written:
-            return [*said, *days_away_lines(new), not_written_text(write)]
-        if missing:
-            said.append(
-                "this plan is written, but it does not keep what the first lines say: do what helps"
-                " and plan again, or undo"
-            )
-        return [*said, *self.pages.lines()]
+        return said
 
     @property
     def may_be_open(self) -> bool:
         """Whether somebody works though she is away."""
-        return while_away(self.plan) > 0
+        return any(while_away(part.plan) > 0 for part in self.parts)
 
     def _changed(self) -> list[str]:
         """The shifts that change, and who has to be called; only their number in a plan that nobody

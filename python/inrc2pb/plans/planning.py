@@ -4,7 +4,7 @@ from dataclasses import replace
 from typing import Callable, Sequence
 
 from ..programs.clock import Clock
-from ..programs.interrupts import interrupts
+from ..programs.interrupts import Interrupts, interrupts
 from ..judging.leave import ILL
 from ..programs.program import NO_ROSTER
 from ..solvers.linear_solvers import is_installed
@@ -15,7 +15,7 @@ from .absence import Away
 from .changes import CALL_POINTS
 from .exchanges import STEPS_A_SECOND, more_even
 from .last_year import LastYear, last_year
-from .facts import newly_exceeded, unkept, while_away
+from .facts import breaks, newly_exceeded, unkept, while_away
 from .left_open import filled, left_open, open_from, with_fewer_open, with_open, without_away
 from .needless_changes import without_needless_changes
 from .planned import Cause, NoPlan, Planned
@@ -23,7 +23,7 @@ from .offers import given_up
 from .searching import Asked, Found, Keep, search_plan, shortages
 from .store import PlanStore, penalties, wide_gap
 from .verb import Event, Outcome, Status, saved
-from .ward import WardPlan, for_leavers
+from .ward import WardPlan, for_leavers, without_border
 
 # The seconds of a search, for each week if it is a whole plan.
 WEEK_SECONDS = 20.0
@@ -40,6 +40,8 @@ MOST_EVENING = 8.0
 STOPPED_EVENING = 0.3
 # The seconds in which needless changes are taken back, if the user has stopped the search.
 STOPPED_CHANGES = 0.9
+# The seconds of a search in the next period, if the user has stopped the one before.
+STOPPED_NEXT = 1.0
 # What a search says before it begins anew.
 WITHOUT_AGREED = (
     "no plan was found that keeps all agreed swaps: a search for one that may break them"
@@ -47,6 +49,7 @@ WITHOUT_AGREED = (
 FIRM = "no plan was found that keeps all of this"
 STILL_OPEN = "no plan was found that fills the open shifts: a search for one that leaves them open"
 LEFT_OPEN = "no plan was found that fills all shifts: a search for one that leaves some open"
+GIVES_UP = "the next period gives that up: a search without regard to its first day"
 FOR_REASON = "no plan was found: a search for the reason, at most 30 s for each week"
 
 
@@ -57,7 +60,10 @@ def searched_for(store: PlanStore, event: Event, absence: Away, *named: int) -> 
         return replace(absence, status=Status.NOT_KEPT)
     say(store, absence.begin())
     verb = " ".join([absence.word, absence.nurse, *map(absence.old.days.head, named)])
-    asked = Asked(absence.days[0], True, event.seconds or CHANGE_SECONDS, do=event.do)
+    after = store.following(absence.new)[0]
+    parts = 2 if after and absence.goes_on(after) else 1
+    seconds = (event.seconds or CHANGE_SECONDS) / parts
+    asked = Asked(absence.days[0], True, seconds, do=event.do)
     return searched(store, event, verb, absence.new, asked, absence)
 
 
@@ -69,64 +75,115 @@ def searched(
     asked: Asked,
     cause: Cause | None = None,
 ) -> Outcome:
-    """Searches, and writes the plan. The `cause` has the plan without what it asks for."""
-    say(store, search_lines(old, asked, store.means.end))
+    """Searches, also in the next period, as far as the verb reaches, and writes what was found. The
+    `cause` has the plan without what it asks for."""
     sheet = store.folder.seen
-    asked = asked._replace(call_points=_call_points(cause.old if cause else old))
-    store.means.progress.counts_changes = asked.few_changes and old.is_planned
+    asked = asked._replace(opens=event.open or event.verb == ILL)
     # A second Ctrl-C does not end it before the plan is written.
     with interrupts() as signals, signals.ending():
-        try:
-            asked = asked._replace(opens=event.open or event.verb == ILL)
-            found = _filling(store, old, asked._replace(seconds=asked.seconds - _evening(asked)))
-        except Stopped:
-            raise
-        except ProgramFault as fault:
-            return _no_plan(store, old, asked, fault, cause)
-        during_search = len(signals.caught)
-        is_stopped = found.stopped
-        clock = Clock(STOPPED_CHANGES)
-
-        def ends() -> bool:
-            return len(signals.caught) > during_search or is_stopped and not clock.left()
-
-        if asked.few_changes and old.is_planned:
-            found = found._replace(plan=without_needless_changes(old, found.plan, ends))
-        before = LastYear() if asked.few_changes else last_year(store.periods(), old)
-        if not asked.few_changes:
-            found = found._replace(plan=_evened(found, asked, ends, before))
-        works = found.plan.works
-        new = with_fewer_open(found.plan)
-        state = new.state.agreeing(lambda place: works.get(place) == old.works.get(place))
-        new = new.with_state(replace(state, least=_least(old, found, asked)))
-        older = cause.old if cause else old
-        seen = older if old.is_planned else None
-        if asked.is_firm and (newly_exceeded(seen, new) or while_away(new) > while_away(older)):
-            raise ProgramFault(NO_ROSTER, FIRM)
-        status = Status.NOT_KEPT if unkept(new) else Status.DONE
-        planned = Planned(
-            before=seen,
-            old=old,
-            asked=asked,
-            plan=new,
-            penalties=penalties(new),
-            bound=found.bound,
-            is_stopped=is_stopped or ends(),
-            ended_by=next(iter(signals.caught), None),
-            cause=cause,
-            verb=verb,
-            status=status,
-            following=store.following(new),
-            gives_up=given_up(new),
-            last_year=before,
-        )
-        if not asked.do and newly_exceeded(seen, new):
-            return replace(planned, status=Status.NOT_KEPT)
+        found = _planned(store, verb, old, asked, cause, signals)
+        may_give = isinstance(cause, Away) and isinstance(found, Planned) and bool(found.gives_up)
+        if may_give and event.do:
+            say(store, [GIVES_UP])
+            found = _planned(store, verb, without_border(old), asked, cause, signals)
+        if isinstance(found, Planned):
+            found = _with_next(store, found, signals, gives=may_give and event.do)
+        if isinstance(found, NoPlan):
+            return found
+        if not asked.do and any(newly_exceeded(part.before, part.plan) for part in found.parts):
+            return replace(found, status=Status.NOT_KEPT)
         if event.look:
-            return replace(planned, is_look=True)
+            return replace(found, is_look=True)
+        if may_give and not (event.do or event.open):
+            return replace(found, status=Status.NOT_KEPT, asks_next=True)
         if store.folder.seen != sheet:
-            return replace(planned, status=Status.NOT_KEPT, is_of_older_sheet=True)
-        return saved(planned, store.save(verb, new, event.typed))
+            return replace(found, status=Status.NOT_KEPT, is_of_older_sheet=True)
+        return written(store, event, found)
+
+
+def written(store: PlanStore, event: Event, found: Planned) -> Planned:
+    """Writes the plan that was found, and those of the next periods that belong to it."""
+    for number, part in enumerate(found.parts):
+        store.add(part.verb, part.plan, event.typed, goes_on=number > 0)
+    return saved(found, store.pages(found.plan))
+
+
+def _with_next(
+    store: PlanStore, found: Planned, signals: Interrupts, gives: bool
+) -> Planned | NoPlan:
+    """The plan that was found, with that of the next period, if an absence goes on there, or if it
+    `gives` shifts up that may not follow this plan."""
+    before, after = found.following
+    if not (before and after and isinstance(found.cause, Away)):
+        return found
+    cause = found.cause.goes_on(after)
+    if gives and breaks(after, 0) != breaks(before, 0):
+        cause = cause or replace(found.cause, old=after, new=after, days=())
+    if cause is None:
+        return found
+    seconds = min(found.asked.seconds, STOPPED_NEXT) if signals.caught else found.asked.seconds
+    asked = found.asked._replace(first=0, seconds=seconds)
+    verb = " ".join([cause.word, cause.nurse, after.days.head(0)])
+    then = _planned(store, verb, cause.new, asked, cause, signals)
+    if isinstance(then, Planned):
+        then = _with_next(store, then, signals, gives=False)
+    return replace(found, then=then) if isinstance(then, Planned) else then
+
+
+def _planned(
+    store: PlanStore,
+    verb: str,
+    old: WardPlan,
+    asked: Asked,
+    cause: Cause | None,
+    signals: Interrupts,
+) -> Planned | NoPlan:
+    """The best plan that a search finds, which is not written."""
+    say(store, search_lines(old, asked, store.means.end))
+    asked = asked._replace(call_points=_call_points(cause.old if cause else old))
+    store.means.progress.counts_changes = asked.few_changes and old.is_planned
+    try:
+        found = _filling(store, old, asked._replace(seconds=asked.seconds - _evening(asked)))
+    except Stopped:
+        raise
+    except ProgramFault as fault:
+        return _no_plan(store, old, asked, fault, cause)
+    during_search = len(signals.caught)
+    is_stopped = found.stopped
+    clock = Clock(STOPPED_CHANGES)
+
+    def ends() -> bool:
+        return len(signals.caught) > during_search or is_stopped and not clock.left()
+
+    if asked.few_changes and old.is_planned:
+        found = found._replace(plan=without_needless_changes(old, found.plan, ends))
+    before = LastYear() if asked.few_changes else last_year(store.periods(), old)
+    if not asked.few_changes:
+        found = found._replace(plan=_evened(found, asked, ends, before))
+    works = found.plan.works
+    new = with_fewer_open(found.plan)
+    state = new.state.agreeing(lambda place: works.get(place) == old.works.get(place))
+    new = new.with_state(replace(state, least=_least(old, found, asked)))
+    older = cause.old if cause else old
+    seen = older if old.is_planned else None
+    if asked.is_firm and (newly_exceeded(seen, new) or while_away(new) > while_away(older)):
+        raise ProgramFault(NO_ROSTER, FIRM)
+    return Planned(
+        before=seen,
+        old=old,
+        asked=asked,
+        plan=new,
+        penalties=penalties(new),
+        bound=found.bound,
+        is_stopped=is_stopped or ends(),
+        ended_by=next(iter(signals.caught), None),
+        cause=cause,
+        verb=verb,
+        status=Status.NOT_KEPT if unkept(new) else Status.DONE,
+        following=store.following(new),
+        gives_up=given_up(new),
+        last_year=before,
+    )
 
 
 def search_lines(plan: WardPlan, asked: Asked, end: str) -> list[str]:

@@ -130,9 +130,10 @@ class PlanReader:
         )
         after = periods.get(number + 1)
         border = border_of(ward, self._named(state_of(after), ward)) if after else ()
+        later = sum(period.days.weeks for period in periods.values() if period.number > number)
         if before and past:
             past = renamed(past, ward.names_since(state_of(before).was))
-        return continued(ward.with_border(border), state, past)
+        return continued(ward.with_border(border, later), state, past)
 
     def _check_columns(self) -> None:
         """Raises Misuse if a day that is not over, and is planned, has no column."""

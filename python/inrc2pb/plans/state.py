@@ -85,6 +85,8 @@ class Record(NamedTuple):
     swap: Swap | None = None
     # The first day after those that are recorded as they were worked.
     recorded: int = 0
+    # Whether its verb has made the plan before it, too, that of the period before.
+    goes_on: bool = False
 
     @property
     def begin(self) -> int:

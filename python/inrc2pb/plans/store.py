@@ -66,11 +66,19 @@ class PlanStore(PlanReader):
         self.add(verb, plan, typed, swap)
         return self.pages(plan)
 
-    def add(self, verb: str, plan: WardPlan, typed: str = "", swap: Swap | None = None) -> None:
-        """Writes the plan that this verb has made, for which these words were typed, without
-        pages."""
+    def add(
+        self,
+        verb: str,
+        plan: WardPlan,
+        typed: str = "",
+        swap: Swap | None = None,
+        goes_on: bool = False,
+    ) -> None:
+        """Writes the plan that this verb has made, for which these words were typed, without pages.
+        One that `goes_on` is taken back with the one before it."""
         now = datetime.datetime.now()
-        texts = plan_texts(plan, plan.state.record(verb, now, typed, swap))
+        record = plan.state.record(verb, now, typed, swap)._replace(goes_on=goes_on)
+        texts = plan_texts(plan, record)
         self.folder.add(verb.split(" ", 1)[0], texts, now)
 
     def other_pages(self) -> tuple[str, ...]:

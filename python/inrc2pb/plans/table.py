@@ -1,6 +1,7 @@
 """The verbs of a ward's folder: all that the terminal and the page can ask for."""
 
 import datetime
+import itertools
 from dataclasses import replace
 from pathlib import Path
 from typing import NamedTuple
@@ -9,9 +10,10 @@ from ..week.dates import PlanDays
 from ..week.records import NurseDay
 from .plan_files import known_record
 from .planned import Planned
+from .planning import written
 from .store import Means, PlanStore
 from .state import Record, Swap
-from .verb import FROM, ON_PAGE, Event, Outcome, Verb, saved
+from .verb import FROM, ON_PAGE, Event, Outcome, Verb
 from .verbs import away, back, check, over, page, plan, set_day, swap, undo
 from .ward import WardPlan
 from .ward_folder import WardFolder, place_of
@@ -81,7 +83,11 @@ class Verbs:
         folder = self._store.folder
         undone = folder.undone()
         plans = sorted([*folder.all_plans(), *undone], key=place_of, reverse=True)
-        return [Done(_done_text(plan), holds=plan not in undone) for plan in plans[:most]]
+        firsts = (plan for plan in plans if not _goes_on(plan))
+        return [
+            Done(_done_text(plan), holds=plan not in undone)
+            for plan in itertools.islice(firsts, most)
+        ]
 
     def asked(self, event: Event) -> Outcome | None:
         """What comes of an event before anything is searched or written, as far as that is known.
@@ -100,10 +106,13 @@ class Verbs:
 
     def written(self, planned: Planned, event: Event) -> Planned:
         """Writes the plan that an event has found, after its user has looked at it."""
-        return saved(
-            replace(planned, is_look=False),
-            self._store.save(planned.verb, planned.plan, event.typed),
-        )
+        return written(self._store, event, replace(planned, is_look=False))
+
+
+def _goes_on(plan: Path) -> bool:
+    """Whether the verb of a plan is that of the one before it, too."""
+    record = known_record(plan)
+    return record is not None and record.goes_on
 
 
 def _done_text(plan: Path) -> str:

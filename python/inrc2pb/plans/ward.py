@@ -251,6 +251,11 @@ def plan_of(ward: Ward, state: State, unknown: tuple[Cell, ...] = ()) -> WardPla
     return WardPlan(ward, state, limits_of(ward, state), unknown)
 
 
+def without_border(plan: WardPlan) -> WardPlan:
+    """The plan, without regard to the shifts of the next period."""
+    return plan_of(plan.ward.with_border((), plan.ward.later_weeks), plan.state)
+
+
 def for_leavers(plan: WardPlan, first: int) -> WardPlan:
     """The plan, judged as by a search from this day on: nurses who leave keep their shifts before
     it."""

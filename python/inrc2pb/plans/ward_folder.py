@@ -28,7 +28,7 @@ from ..week.own_files import check_inside, check_no_link
 from ..week.words import quoted
 from ..week.writing import flush, write_text
 from .kept import Kept, looks_of
-from .plan_files import check_readable
+from .plan_files import check_readable, known_record
 
 PLANS = "plans"
 UNDONE = "undone"
@@ -206,15 +206,17 @@ class WardFolder:
         return last
 
     def undo(self) -> Path:
-        """Takes the last plan away, to the folder `undone`. Returns its new path."""
+        """Takes the last plan away, to the folder `undone`, and with one that goes on the plan
+        before it, that of the same verb. Returns the new path of the first one."""
         last = self.check_undo()
         undone = self.plans / UNDONE
         check_no_link(undone)
         undone.mkdir(exist_ok=True)
+        record = known_record(last)
         path = last.rename(undone / last.name)
         for folder in (undone, self.plans):
             flush(folder)
-        return path
+        return self.undo() if record and record.goes_on and self.last() else path
 
     @contextlib.contextmanager
     def locked(self, say: Callable[[str], None], end: str = "") -> Iterator[None]:

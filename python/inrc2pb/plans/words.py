@@ -60,9 +60,9 @@ class Wording:
         del self._left[: texts.index(text) + 1]
         return self._known("nurse", text, self._nurses)
 
-    def day(self, near: int | None = None) -> int:
-        """A day; a day of the week is the first one from the day `near` on, or from the first day
-        that is not over."""
+    def day(self, near: int | None = None, days: PlanDays | None = None) -> int:
+        """A day of the plan, or of these days, which begin with it; a day of the week is the first
+        one from the day `near` on, or from the first day that is not over."""
         if self.is_over:
             self._misuse("a day is missing")
         text = self._left.pop(0)
@@ -75,11 +75,11 @@ class Wording:
             and not _named(self._left[0], self._nurses)
         ):
             text += f" {self._left.pop(0)}"
-        return self._days.number(text, self._first if near is None else near)
+        return (days or self._days).number(text, self._first if near is None else near)
 
-    def open_day(self, near: int | None = None) -> int:
+    def open_day(self, near: int | None = None, days: PlanDays | None = None) -> int:
         """The same. Raises Misuse if the day is in a week that is over, or recorded."""
-        day = self.day(near)
+        day = self.day(near, days)
         if day < self._first:
             cure = (
                 f"the plan goes on from {self._days.text(self._first)}; undo takes the end of that"

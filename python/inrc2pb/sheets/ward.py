@@ -95,6 +95,8 @@ class Ward:
     opened: tuple[OpenShift, ...] = ()
     # What the period before knows of nurses.
     begin: Begin = Begin()
+    # The weeks of the next periods that have plans.
+    later_weeks: int = 0
 
     def with_absences(self, absences: Sequence[DayWord]) -> "Ward":
         """The ward of the same spreadsheet with other days away that verbs have written."""
@@ -106,13 +108,18 @@ class Ward:
             opened=self.opened,
             begin=self.begin,
         )
-        return ward.with_border(self.border)
+        return ward.with_border(self.border, self.later_weeks)
 
-    def with_border(self, border: tuple[Border, ...]) -> "Ward":
-        """The same with these shifts that nurses may not have at the end."""
+    @property
+    def longer(self) -> PlanDays:
+        """Its days, and those of the next periods that have plans."""
+        return self.days._replace(weeks=self.days.weeks + self.later_weeks)
+
+    def with_border(self, border: tuple[Border, ...], later_weeks: int = 0) -> "Ward":
+        """The same with these shifts that nurses may not have at the end, and these later weeks."""
         older, new = ([one.claim for one in ones] for ones in (self.border, border))
         claims = (claim for claim in self.claims if claim not in older)
-        return replace(self, claims=(*claims, *new), border=border)
+        return replace(self, claims=(*claims, *new), border=border, later_weeks=later_weeks)
 
     def then(self, nurse: str, day: int, shift: str) -> str:
         """The shift of the next period, on its first day, because of which a nurse may not have

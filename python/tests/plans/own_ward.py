@@ -95,8 +95,8 @@ def _cells():
 CELLS = _cells()
 
 
-def sheets(names=None):
-    """The rows of the sheets; `names` has new names of nurses."""
+def sheets(names=None, first=FIRST):
+    """The rows of the sheets, with columns from this day on; `names` has new names of nurses."""
     names = names or {}
     heads = "nurse,contract,skills,never,always off,last shift,days on it,days of work,days off"
     nurses = [[*heads.split(","), "was", "from", "until"]]
@@ -107,7 +107,7 @@ def sheets(names=None):
         nurses.append([*row, begin, SECOND - DAY if nurse in CHANGES else end])
         if nurse in CHANGES:
             nurses.append([names.get(nurse, nurse), CHANGES[nurse], *row[2:], SECOND, ""])
-    days = _dates(FIRST, END - DAY)
+    days = _dates(first, END - DAY)
     needs = [["week", "shift", "skill", *WEEKDAYS]]
     for (shift, skill), (week, weekend) in NEEDS.items():
         needs.append(["", shift, skill, *[_number(week)] * 5, *[_number(weekend)] * 2])
@@ -234,7 +234,8 @@ class Ward:
         # The last planned shifts of each day before its week was over.
         self.planned = {}
         self.open_from = FIRST
-        self.changed = False
+        # The days of weeks that are not over that are recorded as they were worked.
+        self.recorded = set()
 
     # ---- what is known of a nurse's day
 
@@ -482,8 +483,13 @@ class Ward:
         return rows
 
     def ends(self, week):
-        """A week is over as it was planned."""
-        for day in _dates(week, week + 6 * DAY):
+        """A week is over as it was planned, but for days that are recorded."""
+        self.records(week + 6 * DAY)
+
+    def records(self, last):
+        """The days to this one are recorded: they were planned as they are until then."""
+        for day in set(_dates(self.open_from, last)) - self.recorded:
+            self.recorded.add(day)
             for nurse in NURSES:
                 if (nurse, day) in self.cells:
                     self.planned[nurse, day] = self.cells[nurse, day]

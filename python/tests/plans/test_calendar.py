@@ -5,6 +5,7 @@ import re
 import shutil
 import unittest
 from dataclasses import replace
+from unittest import mock
 
 from test_next_period import PeriodTest
 from test_past import today_is
@@ -12,7 +13,8 @@ from test_plans import MONDAY, TWO_WEEKS
 from ward import HAS_CBC, run
 
 from inrc2pb.plans.plan_files import read_state
-from inrc2pb.plans.store import plan_texts
+from inrc2pb.plans.facts import breaks
+from inrc2pb.plans.store import PlanStore, plan_texts
 from inrc2pb.plans.verb import Event
 from inrc2pb.plans.ward_folder import WardFolder
 from inrc2pb.week.dates import PlanDays
@@ -180,6 +182,141 @@ class ColumnsThatAreOver(CalendarTest):
         self.assertIn("Grace leave", printed)
 
 
+@unittest.skipUnless(HAS_CBC, "cbc is not installed")
+class AcrossTheBorder(CalendarTest):
+    """January hangs, too. Finn has Late on the last two days of December, and on the first two of
+    January."""
+
+    def setUp(self):
+        super().setUp()
+        self.plan_january()
+        self.does("page")
+        self.does("page", str(NEXT))
+
+    def works(self):
+        """The nurses' days with shifts of both periods, counted from December's first."""
+        plans = self.reader().current(), self.january()
+        return {
+            (cell.nurse, cell.day + first)
+            for plan, first in zip(plans, (0, 2 * WEEK_DAYS))
+            for cell in plan.cells
+        }
+
+    def away(self):
+        """The days away that verbs have written, and their words, counted so."""
+        plans = self.reader().current(), self.january()
+        return {
+            (one.nurse, one.day + first): one.word
+            for plan, first in zip(plans, (0, 2 * WEEK_DAYS))
+            for one in plan.state.absences
+        }
+
+    def folders(self):
+        return sorted(path.name for path in self.ward.glob("plans/0*"))
+
+    def test_an_illness_is_typed_once_and_taken_back_once(self):
+        days = {("Finn", day) for day in range(12, 16)}
+        before, folders = self.works(), self.folders()
+        self.assertTrue(days <= before)
+        printed = self.does("ill", "Finn", "12.12.", "15.12.", "--open")
+        self.assertEqual(self.away(), dict.fromkeys(days, "ill"))
+        self.assertFalse(days & self.works())
+        # What it takes from each plan on the wall counts as worked.
+        self.assertEqual(self.reader().current().ward.credit["Finn"], 2)
+        self.assertEqual(self.january().ward.credit["Finn"], 2)
+        for text in ("Sun 13 Dec: ill instead of Late", "Mon 14 Dec: ill instead of Late"):
+            self.assertIn(text, printed)
+        self.assertEqual(printed.count("the period from Mon 14 Dec"), 1)
+        self.assertEqual(printed.count("written: "), 1)
+        for name in ("wall.html", f"{NEXT_FOLDER}/wall.html"):
+            self.assertIn(">ill<", (self.ward / name.replace("wall", "roster")).read_text())
+        done = self.verbs().history(9)[0]
+        self.assertTrue(done.text.startswith("ill Finn 12.12. 15.12. --open, "), done)
+        self.assertNotIn("ill", self.verbs().history(9)[1].text)
+        printed = self.does("undo")
+        self.assertIn("undone: ill Finn 12.12. 15.12. --open, ", printed)
+        self.assertEqual((self.works(), self.away(), self.folders()), (before, {}, folders))
+
+    def test_who_is_back_in_december_is_back_in_january_too(self):
+        self.does("ill", "Finn", "12.12.", "15.12.", "--open")
+        self.does("back", "Finn", "13.12.")
+        words = self.reader().current().ward.reasons, self.january().ward.reasons
+        self.assertEqual(words, ({("Finn", 12): "ill"}, {}))
+        self.does("undo")
+        self.assertEqual(len(self.away()), 4)
+
+    def test_a_plan_that_a_killed_run_has_written_alone(self):
+        add = PlanStore.add
+
+        def killed(store, verb, plan, typed="", swap=None, goes_on=False):
+            if goes_on:
+                raise KeyboardInterrupt
+            add(store, verb, plan, typed, swap)
+
+        with mock.patch.object(PlanStore, "add", killed):
+            self.runs("ill", "Finn", "12.12.", "15.12.", "--open")
+        self.assertEqual(self.away(), {("Finn", 12): "ill", ("Finn", 13): "ill"})
+        self.does("ill", "Finn", "12.12.", "15.12.", "--open")
+        self.assertEqual(len(self.away()), 4)
+        self.does("undo")
+        self.assertEqual(len(self.away()), 2)
+        self.does("undo")
+        self.assertEqual(self.away(), {})
+
+    def test_days_of_a_period_that_is_not_planned(self):
+        for _ in range(2):
+            self.does("undo")
+        self.does("undo")
+        self.assertEqual(len(self.reader().periods()), 1)
+        status, _, said = self.runs("leave", "Finn", "12.12.", "15.12.")
+        self.assertEqual(status, 1)
+        self.assertIn("on days that are not planned yet write leave into her cells of the", said)
+
+    def lacks_a_night(self):
+        """Chen has Night on Sunday, and all others who may work it have a shift on Monday."""
+        self.does("undo")
+        self.does("undo")
+        self.does("undo")
+        days = [Cell(nurse, 0, "Day", "Nurse") for nurse in ("Chen", "Dilek", "Ewa")]
+        kept = [
+            cell
+            for cell in TWO_WEEKS
+            if (cell.nurse, cell.day) not in (("Dilek", 0), ("Chen", 0), ("Ewa", 0), ("Ewa", 1))
+        ]
+        self.rows["needs"][4][3] = 0
+        self.write()
+        self.plan_january([*kept, *days])
+        self.does("page")
+
+    def test_what_january_would_have_to_give_up_is_asked(self):
+        self.lacks_a_night()
+        folders = self.folders()
+        status, printed, _ = self.runs("ill", "Chen", "13.12.")
+        self.assertEqual((status, self.folders()), (6, folders))
+        self.assertIn("Night Nurse, Sun 13 Dec: 1 nurse missing\n", printed)
+        self.assertIn("Ewa may not work Night on Sun 13 Dec before Day on Mon 14 Dec", printed)
+        self.assertNotIn("set Chen", printed)
+        self.assertIn(
+            "nothing is written: type it again with --do, and the next period gives up what it has"
+            " to, or with --open, and these shifts stay open\n",
+            printed,
+        )
+        self.does("ill", "Chen", "13.12.", "--open")
+        self.assertEqual([one.word for one in read_state(self.last()).absences], ["ill"])
+        self.assertEqual(len(self.reader().current().state.opened), 1)
+        self.does("undo")
+        printed = self.does("ill", "Chen", "13.12.", "--do")
+        plan, then = self.reader().current(), self.january()
+        self.assertEqual(plan.state.opened, ())
+        (night,) = (cell.nurse for cell in plan.cells if (cell.day, cell.shift) == (13, "Night"))
+        self.assertNotEqual(night, "Chen")
+        self.assertNotIn(then.works.get((night, 0), Cell("", 0, "", "")).shift, ("Day", "Late"))
+        self.assertEqual(breaks(then, 0), [])
+        self.assertIn(f"{night}, Mon 14 Dec: ", printed)
+        self.does("undo")
+        self.assertEqual(self.folders(), folders)
+
+
 class NextBeforeTheEnd(CalendarTest):
     def test_its_history_is_what_is_planned_until_then(self):
         # Chen has Night from Friday to Sunday.
@@ -258,25 +395,6 @@ class NextBeforeTheEnd(CalendarTest):
         self.assertEqual(points, after)
         self.does("set", "Amara", "13.12.", "off", "--time", "0", "--open", "--do")
         self.assertEqual(self.january().view().penalty, before)
-
-    @unittest.skipUnless(HAS_CBC, "cbc is not installed")
-    def test_an_illness_on_the_last_day_says_what_the_next_period_would_give_up(self):
-        # Chen has Night on Sunday, and all others who may work it have a shift on Monday.
-        days = [Cell(nurse, 0, "Day", "Nurse") for nurse in ("Chen", "Dilek", "Ewa")]
-        kept = [
-            cell
-            for cell in TWO_WEEKS
-            if (cell.nurse, cell.day) not in (("Dilek", 0), ("Chen", 0), ("Ewa", 0), ("Ewa", 1))
-        ]
-        self.rows["needs"][4][3] = 0
-        self.write()
-        self.plan_january([*kept, *days])
-        self.does("page")
-        printed = self.does("ill", "Chen", "13.12.")
-        self.assertEqual([one.word for one in read_state(self.last()).absences], ["ill"])
-        self.assertIn("Night Nurse, Sun 13 Dec: 1 nurse missing\n", printed)
-        self.assertIn("set Ewa 2026-12-14 off gives that up\n", printed)
-        self.assertNotIn("set Chen", printed)
 
     def test_the_end_of_december(self):
         self.plan_january()

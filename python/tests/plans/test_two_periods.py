@@ -229,21 +229,39 @@ class TwoPeriods(ServedPage):
         self.agrees(FIRST)
         self.agrees(SECOND)
         self.worked()
-        # ---- an illness across the border, while January hangs
+        # ---- the columns of the first week go, and nothing changes
+        self.rows = sheets(known.names, FIRST + WEEK)
+        self.write()
+        self.hangs_up(FIRST + WEEK + DAY, FIRST)
+        # ---- on Tuesday it is recorded who was off on Monday, and no later plan changes that
+        monday = FIRST + WEEK
+        absent = next(nurse for (nurse, day) in sorted(known.cells) if day == monday)
+        known.records(monday)
+        del known.cells[absent, monday]
+        there = {place for place in known.cells if place[1] == monday}
+        self.assertIn("no week ends", self.verb(monday + DAY, "over", absent, str(monday), "off"))
+        self.agrees(FIRST)
+        self.agrees(FIRST, self.verb(monday + DAY, "plan", *TIME))
+        self.agrees(FIRST, self.verb(monday + DAY, "plan", str(monday + 2 * DAY), *TIME))
+        self.verb(monday + DAY, "set", min(there)[0], str(monday), "off", "--do", status=1)
+        self.assertEqual({place for place in known.cells if place[1] == monday}, there)
+        # ---- an illness across the border, while January hangs, is one form of the page
         border = [SECOND - 2 * DAY, SECOND - DAY, SECOND, SECOND + DAY]
         on_last = {nurse for nurse, day in known.cells if day == SECOND - DAY} - set(LEAVES)
         on_both = {nurse for nurse in on_last if (nurse, SECOND) in known.cells}
         patient = min(on_both or on_last)
-        known.is_ill(patient, border[:2])
-        self.agrees(FIRST, self.verb(border[0] - DAY, "ill", patient, *map(str, border[:2]), *TIME))
+        known.is_ill(patient, border)
+        words = {"verb": "away", "nurse": patient.replace(" ", "_"), "reason": "ill"}
+        days = {"first": border[0], "last": border[-1], "seconds": TIME[1]}
+        self.assertIn("to call", self.on_page(border[0] - DAY, **words, **days))
+        self.agrees(FIRST)
         self.agrees(SECOND)
-        known.is_ill(patient, border[2:])
-        self.agrees(SECOND, self.verb(border[0], "ill", patient, *map(str, border[2:]), *TIME))
         # ---- the period is over; Maria has another name
         self.is_over(SECOND)
         self.worked()
         known.names["Maria Schäfer"] = "Maria Huber"
-        self.rows = sheets(known.names)
+        # The columns of December go.
+        self.rows = sheets(known.names, SECOND)
         self.write()
         # The new sheet has the marks of what has changed since the older one.
         self.verb(SECOND, "page", "--do")

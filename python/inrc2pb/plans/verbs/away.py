@@ -3,6 +3,7 @@
 from ...judging.leave import ILL
 from ...sheets.plan_sheets import AWAY
 from ...sheets.written_days import with_days
+from ...week.dates import OtherPlan
 from ...week.faults import Misuse
 from ...week.words import readable
 from ..absence import Away, lost_by
@@ -19,20 +20,33 @@ def absence(old: WardPlan, event: Event) -> Away:
     )
     nurse = wording.nurse()
     first = wording.open_day()
-    last = first if wording.is_over else wording.open_day(first)
+    try:
+        last = first if wording.is_over else wording.open_day(first, old.ward.longer)
+    except OtherPlan as fault:
+        cure = f"on days that are not planned yet write {event.verb} into her cells of the sheet"
+        raise OtherPlan(f"{fault}: {cure}") from fault
     wording.end()
     if last < first:
         raise Misuse(
             f"{old.days.text(last)} is before {old.days.text(first)}: give the first day first"
         )
-    days = tuple(range(first, last + 1))
-    lost = lost_by(old, nurse, days) if event.verb == ILL and old.state.published else {}
+    return _away(old, nurse, range(first, last + 1), event.verb)
+
+
+def _away(old: WardPlan, nurse: str, days: range, word: str) -> Away:
+    """A nurse is away on days that may go on in the next period, if she is in the ward then."""
+    here = tuple(days[: old.days.total - days.start])
+    lost = lost_by(old, nurse, here) if word == ILL and old.state.published else {}
+    left = range(days.stop - old.days.total)
     return Away(
         old,
-        old.with_absences(with_days(old.state.absences, nurse, days, event.verb, lost)),
+        old.with_absences(with_days(old.state.absences, nurse, here, word, lost)),
         nurse,
-        days,
-        event.verb,
+        here,
+        word,
+        goes_on=lambda plan: (
+            _away(plan, nurse, left, word) if left and nurse in plan.scenario.nurses else None
+        ),
     )
 
 

@@ -19,6 +19,11 @@ def _lifted(old: WardPlan, event: Event) -> Away:
     nurse = wording.nurse()
     first = wording.open_day()
     wording.end()
+    return _back(old, nurse, first)
+
+
+def _back(old: WardPlan, nurse: str, first: int) -> Away:
+    """A nurse is back from a day on, also in the next period, if the absence goes on there."""
     word, days = absence_from(old, nurse, first)
     is_written = words_by_day(old.state.absences, nurse).get(first) == word
     lifted = (
@@ -31,7 +36,20 @@ def _lifted(old: WardPlan, event: Event) -> Away:
     if same:
         # The spreadsheet has the same absence.
         new = old.with_absences(with_days(lifted, nurse, same, BACK))
-    return Away(old, new, nurse, tuple(days), BACK, was=word)
+    is_to_end = days[-1] == old.days.total - 1
+    return Away(
+        old,
+        new,
+        nurse,
+        tuple(days),
+        BACK,
+        was=word,
+        goes_on=lambda plan: (
+            _back(plan, nurse, 0)
+            if is_to_end and plan.away.get(NurseDay(nurse, 0)) == word
+            else None
+        ),
+    )
 
 
 def absence_from(plan: WardPlan, nurse: str, first: int) -> tuple[str, list[int]]:
