@@ -96,7 +96,7 @@ RESTING = {
 # The same of these statements: in words, the lists in words, and the place of the statement.
 BOUND_BELIEFS = [
     (
-        "A bound holds for all rosters, and a given penalty is right.",
+        "A bound holds for all plans, and a given penalty is right.",
         "list 6, and what it names of 1 and 2",
         (CRATES / RESTING["The meaning of a bound"][0], RESTING["The meaning of a bound"][1]),
     ),
