@@ -4,6 +4,8 @@ use Rattle.std.specs.Prelude.{⊤, ◌⊎◌, Bool, true, false, Option, Some, N
 use Rattle.std.specs.declared.string.String.{String}
 use Rattle.byte_ports.specs.declared.ports.Source.{Ghosts}
 use Rattle.rota_core.specs.InstanceTables.{InstanceTables, IsInstance, holding, problem_of}
+use Rattle.rota_core.specs.Problem.{Problem}
+use Rattle.rota_core.specs.Roster.{Roster}
 use Rattle.rota_core.specs.RosterTables.{RosterTables, set_of}
 use Rattle.rota_core.specs.ScenarioTables.{ScenarioTables}
 use Rattle.rota_core.specs.Trees.{leaf_tree}
@@ -21,12 +23,13 @@ use Rattle.rota_pb.specs.PeriodFaults.{fault_in_week}
 use Rattle.rota_pb.specs.RunPorts.{IsUntouched, Writer, WritesBeginning, WritesText, reader_of}
 use Rattle.rota_pb.specs.Steps.{EndsInTurn, Step, StepOf, ◌>>=◌, check, stopped, went_on}
 use Rattle.rota_pb.specs.declared.fault.Fault.{Fault}
-use Rattle.rota_pb.specs.declared.fault.Fault.TheVariants.{Memory, Write}
+use Rattle.rota_pb.specs.declared.fault.Fault.TheVariants.{Answer, Breaks, File, Memory, NoRoster, Read, Write}
+use Rattle.rota_pb.specs.declared.fault.Fault.TheVariants as one_fault
 use Rattle.rota_pb.specs.declared.period_fault.PeriodFault.{PeriodFault}
 use Rattle.rota_pb.specs.declared.period_fault.PeriodFault.TheVariants.{InWeek, Run, Unmet}
 use Rattle.inrc2pb_frame.specs.Contents.{IsKnown, content_of, held_in}
 use Rattle.byte_ports.specs.Paths.{FileAt, Path}
-use Rattle.inrc2pb_frame.proofs.FilesShown.{breaks-about, shows-roster, shows-spelled, told}
+use Rattle.inrc2pb_frame.proofs.FilesShown.{shows-roster, shows-spelled, told}
 use Rattle.byte_ports.proofs.OpenedFiles.{IsNewAt, IsNewIfNamed}
 use Rattle.inrc2pb_frame.proofs.Shows.{About, Shows, Writes, about, contents, lies, reading, shows-check, shows-file, shows-find, shows-made}
 use Rattle.inrc2pb_frame.proofs.Shows.{shows-room, shows-same, shows-then, writes-last, writes-then, writing}
@@ -36,7 +39,7 @@ use Rattle.rota_bound_run.specs.CertificateRead.{HasRepeatedFact, IsFreeCertific
 use Rattle.rota_bound_run.specs.ExactAnswers.{IsAnswer}
 use Rattle.rota_bound_run.specs.Judging.{ArePastsOf, IsBeyond, history_before, judge_week}
 use Rattle.rota_bound_run.specs.PeriodFiles.{each_of, period_readers, reader_if, week_readers}
-use Rattle.rota_bound_run.specs.PeriodRead.{read_given, read_next, read_weeks}
+use Rattle.rota_bound_run.specs.PeriodRead.{PeriodTables, read_given, read_next, read_period, read_weeks}
 use Rattle.rota_bound_run.specs.PeriodSteps.{PeriodStep, for_all, for_week, in_turn, lost, renamed}
 use Rattle.rota_bound_run.specs.PlanJudged.{for_some, judge_next, judge_plan, meet_given}
 use Rattle.rota_bound_run.specs.Wards.{IsWardOf, read_ward}
@@ -47,7 +50,7 @@ use Rattle.rota_bound_run.specs.declared.files.PeriodFiles.{PeriodFiles}
 use Rattle.rota_bound_run.specs.declared.files.Question.{Question}
 use Rattle.rota_bound_run.specs.declared.files.WeekFiles.{WeekFiles}
 use Rattle.rota_bound_run.specs.declared.ward.Ward.{Ward}
-use Rattle.inrc2pb_bound_program.specs.PeriodContents.{answer_in, certificate_in, given_in, judged_in, plan_in, rosters_in}
+use Rattle.inrc2pb_bound_program.specs.PeriodContents.{answer_in, certificate_in, given_in, judged_in, period_in, plan_in, rosters_in}
 use Rattle.inrc2pb_bound_program.specs.PeriodContents.{ward_in, week_in, weeks_in}
 use Rattle.inrc2pb_bound_program.proofs.OpenedPeriod.{InPairs, IsNewPeriod, IsNewWeek, pairs-length}
 
@@ -80,6 +83,16 @@ shows-for_all one = shows-renamed Run (λ fault. refl) one
 shows-for_week : {A : Type 0} (weeks index : ℕ) {run shown : Step A} → Shows about run shown →
     Shows about_period (for_week weeks index run) (for_week weeks index shown)
 shows-for_week weeks index one = shows-renamed (fault_in_week weeks index) (about-week weeks index) one
+
+breaks-about : (week : Problem) (roster : Roster) (fault : Fault) → BreaksRule week roster fault → about fault ≡ contents
+breaks-about week roster (Breaks rule) breaks = refl
+breaks-about week roster (File one) breaks = absurd breaks
+breaks-about week roster Memory breaks = absurd breaks
+breaks-about week roster Write breaks = absurd breaks
+breaks-about week roster Read breaks = absurd breaks
+breaks-about week roster (Answer one) breaks = absurd breaks
+breaks-about week roster (NoRoster status) breaks = absurd breaks
+breaks-about week roster (one_fault.Unmet number) breaks = absurd breaks
 
 lacks-memory : (fault : PeriodFault) → fault ≡ Run Memory → about_period fault ≡ reading
 lacks-memory fault is = ap about_period is
@@ -152,6 +165,9 @@ module _ {X : Type 0} (paths : PeriodFiles (String X)) where
     history = record { nurses = 0; shifts = 0; skills = 0; week = 0; past = no_items paths.weeks };
   }
 
+  some_period : PeriodTables
+  some_period = record { ward = some_ward; weeks = []; given = no_facts }
+
   some_certificate : Certificate
   some_certificate = record { prices = no_items paths.weeks; tree = leaf_tree (record { prices = 0; surcharges = [] }) }
 
@@ -222,7 +238,7 @@ module _ {F X : Type 0} (port : Ghosts F) (at : Path → FileAt) (known : (path 
       subst (λ (n : ℕ). Shows about_period (in_turn (read_next early ward n) [] readers) (weeks_in at early ward (length paths) [] paths))
       (sym count) (shows-weeks early ward (length paths) paths olds news pairs [])
 
-  -- ---- the facts and the certificate
+  -- ---- the facts
 
   shows-given : (s : ScenarioTables) (weeks : ℕ) (path : Option (String X)) (old new : Option F) → IsNewIfNamed port at path old →
       Shows about (read_given s weeks (reader_if port old new)) (given_in at s weeks path)
@@ -231,6 +247,19 @@ module _ {F X : Type 0} (port : Ghosts F) (at : Path → FileAt) (known : (path 
   shows-given s weeks (Some path) None new is = absurd is
   shows-given s weeks (Some path) (Some old) None is = shows-lost about tt
   shows-given s weeks (Some path) (Some old) (Some new) is = shows-spelled (told port at known path old new is) names.Facts (facts s weeks)
+
+  -- ---- the period
+
+  shows-period : (early : Bool) (paths : PeriodFiles (String X)) (old new : PeriodFiles F) → IsNewPeriod port at paths old →
+      Shows about_period (read_period early (reader_of port old.scenario new.scenario) (reader_of port old.history new.history)
+      (each_of (week_readers port) old.weeks.items new.weeks.items) (reader_if port old.given new.given)) (period_in at early paths)
+  shows-period early paths old new is =
+      shows-then about_period (shows-for_all (shows-ward paths old new is)) (λ ward.
+      shows-then about_period (shows-all_weeks early ward paths.weeks.items old.weeks.items new.weeks.items is.weeks) (λ weeks.
+      shows-then about_period (shows-for_all (shows-given ward.scenario (length weeks) paths.given old.given new.given is.given)) (λ given.
+      shows-find about_period (λ (period : PeriodTables). period ≡ record { ward = ward; weeks = weeks; given = given }))))
+
+  -- ---- the certificate
 
   shows-certificate : (s : ScenarioTables) (weeks : ℕ) (path : Option (String X)) (old new : Option F) → IsNewIfNamed port at path old →
       Shows about (read_proof s weeks (reader_if port old new)) (certificate_in at s weeks path)
@@ -312,14 +341,12 @@ module _ {F X : Type 0} (port : Ghosts F) (at : Path → FileAt) (known : (path 
         (bound_run question (period_readers port old new) out) (answer_in at question paths)
     unfolding bound_run answer_in
     writes-answer =
-        writes-then about_period (shows-for_all (shows-ward paths old new is)) (some_ward paths) (λ ward.
-        writes-then about_period (shows-all_weeks question.early ward paths.weeks.items old.weeks.items new.weeks.items is.weeks) [] (λ weeks.
-        writes-then about_period (shows-for_all (shows-given ward.scenario (length weeks) paths.given old.given new.given is.given)) no_facts (λ given.
-        writes-then about_period (shows-for_all (shows-certificate ward.scenario (length weeks) paths.proof old.proof new.proof is.proof))
-        (some_certificate paths) (λ certificate.
-        writes-then about_period (shows-plan weeks given paths.rosters.items old.rosters.items new.rosters.items is.rosters) None (λ judged.
-        writes-last about_period (shows-check about_period (IsAnswer question.minimums weeks given.conditions certificate judged)
+        writes-then about_period (shows-period question.early paths old new is) (some_period paths) (λ period.
+        writes-then about_period (shows-for_all
+        (shows-certificate period.ward.scenario (length period.weeks) paths.proof old.proof new.proof is.proof)) (some_certificate paths) (λ certificate.
+        writes-then about_period (shows-plan period.weeks period.given paths.rosters.items old.rosters.items new.rosters.items is.rosters) None (λ judged.
+        writes-last about_period (shows-check about_period (IsAnswer question.minimums period.weeks period.given.conditions certificate judged)
         (λ fault. fault ≡ Run Memory) (λ fault. ⊥) (λ fault of lacks. cc (of, lacks-memory fault lacks))
         (λ fault of lacks. cc (of, lacks-memory fault lacks))) some_answer
         (λ answer idle. idle) (λ answer sent. sent)
-        (λ answer fault fails. (ap about_period fails.1 ∙ ap about fails.2.0, (fails.1 ∙ ap Run fails.2.0, fails.2.1))))))))
+        (λ answer fault fails. (ap about_period fails.1 ∙ ap about fails.2.0, (fails.1 ∙ ap Run fails.2.0, fails.2.1))))))

@@ -20,6 +20,7 @@ use Rattle.byte_ports.specs.Paths.{FileAt, Path}
 use Rattle.rota_bound_run.specs.CertificateRead.{HasRepeatedFact, IsFreeCertificate}
 use Rattle.rota_bound_run.specs.ExactAnswers.{IsAnswer}
 use Rattle.rota_bound_run.specs.Judging.{ArePastsOf, IsBeyond, history_before, judge_roster}
+use Rattle.rota_bound_run.specs.PeriodRead.{PeriodTables}
 use Rattle.rota_bound_run.specs.PeriodSteps.{PeriodStep, for_all, for_week}
 use Rattle.rota_bound_run.specs.PlanJudged.{for_some, meet_given}
 use Rattle.rota_bound_run.specs.Wards.{IsWardOf}
@@ -88,12 +89,18 @@ module _ {X : Type 0} (at : Path → FileAt) where
     judged ← meet_given weeks given rosters
     check (λ found. found ≡ Some judged) (λ fault. ⊥)
 
+  -- the ward, its weeks and the given facts
+  abbrev pub period_in : Bool → PeriodFiles (String X) → PeriodStep PeriodTables
+  period_in early paths = do
+    ward ← for_all (ward_in paths)
+    weeks ← weeks_in early ward (length paths.weeks.items) [] paths.weeks.items
+    given ← for_all (given_in ward.scenario (length weeks) paths.given)
+    check (λ period. period ≡ record { ward = ward; weeks = weeks; given = given }) (λ fault. ⊥)
+
   -- the answer, which is true of exactly these
   unfoldable pub answer_in : Question → PeriodFiles (String X) → PeriodStep PeriodAnswer
   answer_in question paths = do
-    ward ← for_all (ward_in paths)
-    weeks ← weeks_in question.early ward (length paths.weeks.items) [] paths.weeks.items
-    given ← for_all (given_in ward.scenario (length weeks) paths.given)
-    certificate ← for_all (certificate_in ward.scenario (length weeks) paths.proof)
-    judged ← plan_in weeks given paths.rosters.items
-    check (IsAnswer question.minimums weeks given.conditions certificate judged) (λ fault. ⊥)
+    period ← period_in question.early paths
+    certificate ← for_all (certificate_in period.ward.scenario (length period.weeks) paths.proof)
+    judged ← plan_in period.weeks period.given paths.rosters.items
+    check (IsAnswer question.minimums period.weeks period.given.conditions certificate judged) (λ fault. ⊥)

@@ -18,7 +18,7 @@ use Rattle.rota_pb.specs.declared.period_fault.PeriodFault.{PeriodFault}
 use Rattle.rota_bound_run.specs.CertificateRead.{read_proof}
 use Rattle.rota_bound_run.specs.Judging.{history_before, judge_week}
 use Rattle.rota_bound_run.specs.PeriodFiles.{each_of, reader_if, week_readers}
-use Rattle.rota_bound_run.specs.PeriodRead.{read_given, read_next, read_weeks}
+use Rattle.rota_bound_run.specs.PeriodRead.{PeriodTables, read_given, read_next, read_weeks}
 use Rattle.rota_bound_run.specs.PeriodSteps.{Optional, PeriodStep, for_week}
 use Rattle.rota_bound_run.specs.PlanJudged.{for_some, judge_all, judge_next, judge_plan, meet_given}
 use Rattle.rota_bound_run.specs.declared.answer.PeriodAnswer.{PeriodAnswer}
@@ -138,40 +138,27 @@ pub proof-for-all : {n m : ℕ} (s : ScenarioTables) (file : Optional Reader) (r
     (read_proof s n file).ends result → (read_proof s m file).ends result
 proof-for-all s file result same ends = subst (λ (n : ℕ). (read_proof s n file).ends result) same ends
 
--- ---- the rest of a run that stops: its files and the writer are not touched
+-- ---- the rest of a run that stops after it read the period: its files and the writer are not touched
 
 module _ {S W : Type 0} (port : Ghosts S) (files : PeriodFiles S) (out : W) where
   abbrev AnswerLeft : Type 0
   AnswerLeft = Unit {0} × (PeriodAnswer → out ≡ out)
 
-  abbrev RostersLeft : List InstanceTables → GivenTables → Type 0
-  RostersLeft weeks given =
-      (judge_plan weeks given (each_of (reader_of port) files.rosters.items files.rosters.items)).untouched × (Option Judged → AnswerLeft)
+  abbrev RostersLeft : PeriodTables → Type 0
+  RostersLeft period =
+      (judge_plan period.weeks period.given (each_of (reader_of port) files.rosters.items files.rosters.items)).untouched ×
+      (Option Judged → AnswerLeft)
 
-  abbrev ProofLeft : ScenarioTables → List InstanceTables → GivenTables → Type 0
-  ProofLeft s weeks given =
-      (read_proof s (length weeks) (reader_if port files.proof files.proof)).untouched × (Certificate → RostersLeft weeks given)
-
-  abbrev GivenLeft : ScenarioTables → List InstanceTables → Type 0
-  GivenLeft s weeks =
-      (read_given s (length weeks) (reader_if port files.given files.given)).untouched × ((given : GivenTables) → ProofLeft s weeks given)
-
-  abbrev WeeksLeft : Bool → Ward → Type 0
-  WeeksLeft early ward =
-      (read_weeks early ward (each_of (week_readers port) files.weeks.items files.weeks.items)).untouched ×
-      ((weeks : List InstanceTables) → GivenLeft ward.scenario weeks)
+  abbrev ProofLeft : PeriodTables → Type 0
+  ProofLeft period =
+      (read_proof period.ward.scenario (length period.weeks) (reader_if port files.proof files.proof)).untouched ×
+      (Certificate → RostersLeft period)
 
   pub left-answer : Option Judged → AnswerLeft
   left-answer judged = (tt, λ answer. refl)
 
-  pub left-rosters : (weeks : List InstanceTables) (given : GivenTables) → Certificate → RostersLeft weeks given
-  left-rosters weeks given certificate = (judges-none port weeks given files.rosters.items, left-answer)
+  pub left-rosters : (period : PeriodTables) → Certificate → RostersLeft period
+  left-rosters period certificate = (judges-none port period.weeks period.given files.rosters.items, left-answer)
 
-  pub left-proof : (s : ScenarioTables) (weeks : List InstanceTables) (given : GivenTables) → ProofLeft s weeks given
-  left-proof s weeks given = (proves-none port s (length weeks) files.proof, left-rosters weeks given)
-
-  pub left-given : (s : ScenarioTables) (weeks : List InstanceTables) → GivenLeft s weeks
-  left-given s weeks = (gives-none port s (length weeks) files.given, left-proof s weeks)
-
-  pub left-weeks : (early : Bool) (ward : Ward) → WeeksLeft early ward
-  left-weeks early ward = (reads-no-weeks port early ward files.weeks.items, left-given ward.scenario)
+  pub left-proof : (period : PeriodTables) → ProofLeft period
+  left-proof period = (proves-none port period.ward.scenario (length period.weeks) files.proof, left-rosters period)

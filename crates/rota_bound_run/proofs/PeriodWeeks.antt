@@ -14,6 +14,8 @@ use Rattle.rota_core.specs.ScenarioTables.{ScenarioTables, numbers_of}
 use Rattle.rota_certificate_read.specs.CertificateLayout.{IsCertificateOf}
 use Rattle.rota_certificate.specs.PeriodBounds.{AreEvidence, AreGivenFor, IsForWeeks, IsPeriod}
 use Rattle.rota_certificate.specs.Periods.{AreOfOneWard, Continue}
+use Rattle.rota_bound_run.specs.FittingPeriods.{FitsWard}
+use Rattle.rota_bound_run.specs.PeriodRead.{PeriodTables}
 use Rattle.rota_bound_run.specs.WeeksRead.{AreWeeksFrom, IsWeekAt}
 use Rattle.rota_bound_run.specs.declared.ward.Ward.{Ward}
 
@@ -94,11 +96,15 @@ module _ (early : Bool) (ward : Ward) where
   for-weeks [] certificate are some fits = absurd (omega (arith, some))
   for-weeks (first ∷ rest) certificate are some fits = fits.each first (first-week first rest are).scenario
 
-  pub are-evidence : (weeks : List InstanceTables) (given : List Condition) (certificate : Certificate) (count : ℕ) →
-      AreWeeksFrom early ward 0 weeks → 0 < length weeks → count ≡ length weeks → AreConditionsFor (numbers_of ward.scenario) count given →
-      length given ≤ max_number → IsCertificateOf ward.scenario count certificate → AreEvidence weeks given certificate
-  are-evidence weeks given certificate count are some same conditions few fits = record {
-    period = is-period weeks are;
-    given_for = given-for weeks given are some (rw same at conditions) few;
-    is_for = for-weeks weeks certificate are some (rw same at fits);
+-- the given facts are about the plans of a period that was read, and the certificate is evidence for them
+module _ (early : Bool) (period : PeriodTables) (fits : FitsWard early period) (some : 0 < length period.weeks) where
+  pub are-given : AreGivenFor period.weeks period.given.conditions
+  are-given = given-for early period.ward period.weeks period.given.conditions fits.weeks some fits.given fits.few
+
+  pub are-evidence : (certificate : Certificate) (count : ℕ) → count ≡ length period.weeks →
+      IsCertificateOf period.ward.scenario count certificate → AreEvidence period.weeks period.given.conditions certificate
+  are-evidence certificate count same fits_weeks = record {
+    period = is-period early period.ward period.weeks fits.weeks;
+    given_for = are-given;
+    is_for = for-weeks early period.ward period.weeks certificate fits.weeks some (rw same at fits_weeks);
   }

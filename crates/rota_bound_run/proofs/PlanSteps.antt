@@ -1,5 +1,5 @@
 -- One more roster of a plan.
-use Rattle.std.proofs.Common.{◌≡◌, ℕ, suc, refl, ap, sym, ◌∙◌, subst, arith, List, [], ◌∷◌, ◌++◌, length, map, drop}
+use Rattle.std.proofs.Common.{◌≡◌, ℕ, refl, ap, sym, ◌∙◌, arith, List, [], ◌∷◌, ◌++◌, length, map, drop}
 use Rattle.std.proofs.lemmas.List.{drop-map, drop_all, map-append, length-map}
 use Rattle.rota_core.specs.InstanceTables.{InstanceTables, problem_of}
 use Rattle.rota_core.specs.Problem.{Problem}

@@ -8,23 +8,19 @@ use Rattle.rota_bound_run.specs.BoundText.{bound_text}
 use Rattle.rota_bound_run.specs.CertificateRead.{read_proof}
 use Rattle.rota_bound_run.specs.ExactAnswers.{IsAnswer}
 use Rattle.rota_bound_run.specs.PeriodFiles.{FilesOfPeriod, period_readers}
-use Rattle.rota_bound_run.specs.PeriodRead.{read_given, read_weeks}
+use Rattle.rota_bound_run.specs.PeriodRead.{read_period}
 use Rattle.rota_bound_run.specs.PeriodSteps.{PeriodStep, for_all, make}
 use Rattle.rota_bound_run.specs.PlanJudged.{judge_plan}
-use Rattle.rota_bound_run.specs.Wards.{read_ward}
 use Rattle.rota_bound_run.specs.declared.files.PeriodFiles.{PeriodFiles}
 use Rattle.rota_bound_run.specs.declared.files.Question.{Question}
 
--- The scenario, the history, and each week are read, then the given facts, the certificate, and each roster; then the text of the answer is
--- sent.
+-- The period is read, then the certificate, and each roster; then the text of the answer is sent.
 unfoldable pub bound_run : Question → FilesOfPeriod → Writer → PeriodStep (Unit {0})
 bound_run question files out = do
-  ward ← for_all (read_ward files.scenario files.history)
-  weeks ← read_weeks question.early ward files.weeks
-  given ← for_all (read_given ward.scenario (length weeks) files.given)
-  certificate ← for_all (read_proof ward.scenario (length weeks) files.proof)
-  judged ← judge_plan weeks given files.rosters
-  answer ← make (IsAnswer question.minimums weeks given.conditions certificate judged)
+  period ← read_period question.early files.scenario files.history files.weeks files.given
+  certificate ← for_all (read_proof period.ward.scenario (length period.weeks) files.proof)
+  judged ← judge_plan period.weeks period.given files.rosters
+  answer ← make (IsAnswer question.minimums period.weeks period.given.conditions certificate judged)
   for_all (send out (bound_text answer))
 
 -- the run answered the question from the files that are `old` before it and `new` after it

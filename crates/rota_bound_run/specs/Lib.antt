@@ -3,6 +3,7 @@ pub mod Bounding
 pub mod CertificateRead
 pub mod Claims
 pub mod ExactAnswers
+pub mod FittingPeriods
 pub mod JudgedWeeks
 pub mod Judging
 pub mod OneWeek

@@ -11,6 +11,7 @@ mod judged_week;
 /// The meaning of an answer for a single week.
 pub mod laws;
 mod pasts;
+mod period;
 mod proof_file;
 mod run;
 mod ward;

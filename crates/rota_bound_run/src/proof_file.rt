@@ -1,5 +1,5 @@
 //! The certificate, from its file.
-ghost use Rattle.std.specs.Prelude.{◌≡◌, IfOk, MatchResult};
+ghost use Rattle.std.specs.Prelude.{IfOk, MatchResult};
 ghost use Rattle.rota_core.specs.declared.fault.FileName.TheVariants as names;
 ghost use Rattle.rota_certificate_read.specs.CertificateLayout.{IsCertificateOf, SpellsCertificate, certificate};
 ghost use Rattle.rota_pb.specs.RunPorts.{IsRead, reader_of};

@@ -9,11 +9,9 @@ ghost use Rattle.rota_bound_run.specs.PeriodSteps.{for_all};
 use crate::answer::{PeriodAnswer, answer_for};
 use crate::bound_text::write_answer;
 use crate::files::{PeriodFiles, Question};
-use crate::given_file::read_given;
 use crate::judged::judge_plan;
+use crate::period::read_period;
 use crate::proof_file::read_proof;
-use crate::ward::read_ward;
-use crate::weeks::read_weeks;
 use byte_ports::{Source, Target};
 use rota_pb::PeriodFault;
 use std::alloc::Global;
@@ -48,16 +46,21 @@ pub fn run_bound<S: Source, W: Target>(
     requires files { AreFiles files.old }
     ensures { AnswersFrom question S.Source files.old files.new (writer_of W.Target out.old out.new) result }
 {
-    let ward = read_ward(alloc, &mut files.scenario, &mut files.history)?;
-    let mut weeks = read_weeks(alloc, question.early, &ward, &mut files.weeks)?;
-    let count = weeks.len() as u8;
-    let given = read_given(alloc, &ward.scenario, count, &mut files.given)?;
-    let certificate = read_proof(alloc, &ward.scenario, count, &mut files.proof)?;
-    let judged = judge_plan(alloc, &mut weeks, &given, &mut files.rosters)?;
+    let mut period = read_period(
+        alloc,
+        question.early,
+        &mut files.scenario,
+        &mut files.history,
+        &mut files.weeks,
+        &mut files.given,
+    )?;
+    let count = period.weeks.len() as u8;
+    let certificate = read_proof(alloc, &period.ward.scenario, count, &mut files.proof)?;
+    let judged = judge_plan(alloc, &mut period.weeks, &period.given, &mut files.rosters)?;
     let answer = answer_for(
         alloc,
-        &weeks,
-        &given.conditions,
+        &period.weeks,
+        &period.given.conditions,
         &certificate,
         question.minimums,
         &judged,

@@ -1,5 +1,5 @@
 //! What all weeks of a period share.
-ghost use Rattle.std.specs.Prelude.{◌≡◌, ◌+◌, ◌<◌, ◌⊎◌, IfErr, IfOk};
+ghost use Rattle.std.specs.Prelude.{◌≡◌, ◌<◌, ◌⊎◌, IfErr, IfOk};
 ghost use Rattle.rota_pb.specs.RunPorts.{reader_of};
 ghost use Rattle.rota_pb.specs.declared.fault.Fault.TheVariants.{Memory};
 ghost use Rattle.rota_bound_run.specs.Wards.{IsWard, history_at, read_ward};
