@@ -132,6 +132,11 @@ class Planned(Outcome):
             *due_lines(new),
             *wish_lines(self.before, new),
             *cost_lines(self.penalties, new.days),
+            *(
+                f"{new.days.week_text(week)} has no points, since days of it break a hard rule"
+                for week in new.weeks
+                if week not in self.penalties
+            ),
         ]
         said += [] if self.then else next_period_lines(*self.following)
         said += self.gives_up

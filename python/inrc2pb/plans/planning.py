@@ -127,7 +127,9 @@ def _with_next(
     then = _planned(store, verb, cause.new, asked, cause, signals)
     if isinstance(then, Planned):
         then = _with_next(store, then, signals, gives=False)
-    return replace(found, then=then) if isinstance(then, Planned) else then
+    if isinstance(then, NoPlan):
+        return then
+    return replace(found, then=then, ended_by=then.ended_by)
 
 
 def _planned(

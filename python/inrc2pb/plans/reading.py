@@ -8,7 +8,6 @@ from typing import Iterator, Mapping, NamedTuple, Sequence
 
 from ..sheets.gone_days import Gone, always_off, older_names_of
 from ..sheets.older_names import Begin, Names
-from ..sheets.plan_days import head_dates
 from ..sheets.ward import Ward
 from ..sheets.ward_sheets import shift_times
 from ..sheets.week_rows import WeekRow, unchanged_rows
@@ -137,10 +136,8 @@ class PlanReader:
 
     def _check_columns(self) -> None:
         """Raises Misuse if a day that is not over, and is planned, has no column."""
-        dates = head_dates(self.folder.book())
-        if dates is None:
-            return
-        for period in self.periods():
+        dates = self.folder.dates()
+        for period in self.periods() if dates else ():
             days = period.days
             is_dated = days.monday is not None and not period.ended
             first = WEEK_DAYS * period.open_week if is_dated else days.total
@@ -151,7 +148,7 @@ class PlanReader:
 
     def _gone(self, period: Period) -> Gone:
         """The first days of a period whose columns were taken out, since they are over."""
-        begins = self.folder.days().monday
+        begins = min(self.folder.dates(), default=None)
         days = (begins - period.days.monday).days if begins and period.days.monday else 0
         if not 0 < days <= WEEK_DAYS * period.open_week:
             return Gone()

@@ -24,6 +24,7 @@ from ..week.faults import FileFault, fault_line
 from ..week.files import history_text, solution_text, week_text
 from ..week.records import WEEK_DAYS, Cell, NurseDay, Solution, Week, WeekData, in_week
 from ..week.writing import write_text
+from .broken_days import without_broken
 from .changes import CALL_POINTS, days_off_beside_absences, with_few_changes, with_old_skills
 from .limits import limits_for_leavers
 from .ward import WardPlan
@@ -93,6 +94,8 @@ class Found(NamedTuple):
 
 def search_plan(old: WardPlan, asked: Asked, progress: Progress) -> Found:
     """The best plan of the weeks that are not over. It begins with the old one, if there is one."""
+    whole = old
+    old, broken = without_broken(whole)
     with tempfile.TemporaryDirectory(prefix="inrc2pb-plan-") as name:
         files = _files(old, asked, Path(name))
         beside = old.days_away._replace(fixed=asked.first - old.first)
@@ -128,10 +131,10 @@ def search_plan(old: WardPlan, asked: Asked, progress: Progress) -> Found:
     labelled = with_old_skills(old.scenario, cells, [*old.cells, *old.held.values()])
     bound = (
         KnownBound(best.cost, search.bound, search.bound_beside, bool(beside.kept))
-        if search.bound and best.cost is not None
+        if search.bound and best.cost is not None and not broken
         else None
     )
-    return Found(old.with_cells(labelled), bound, clock.stopped)
+    return Found(whole.with_cells([*labelled, *broken]), bound, clock.stopped)
 
 
 def _older_rows(old: WardPlan) -> dict[str, bytes]:

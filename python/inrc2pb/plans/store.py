@@ -18,6 +18,7 @@ from ..week.own_files import is_own_file
 from ..week.records import Solution
 from ..week.writing import write_text
 from . import pages
+from .broken_days import without_broken
 from .kept_shifts import published_days, sums_of_period
 from .pages import Pages
 from .periods import past_plan
@@ -231,7 +232,10 @@ def wide_gap(plan: WardPlan) -> Gap | None:
 
 
 def penalties(plan: WardPlan) -> dict[int, int]:
-    """The penalty of each week that is not over, by `inrc2pb extend`."""
+    """The penalty of each week that is not over, by `inrc2pb extend`, but for weeks with recorded
+    days that break a hard rule: of these it checks the rest."""
+    legal = without_broken(plan)
+    plan = legal.plan
     by_week = {}
     with tempfile.TemporaryDirectory(prefix="inrc2pb-plan-") as name:
         folder = Path(name)
@@ -245,4 +249,4 @@ def penalties(plan: WardPlan) -> dict[int, int]:
             by_week[number] = penalty_of(
                 WeekFiles(folder / "ward.txt", history, folder / f"week-{number}.txt"), roster
             )
-    return by_week
+    return {number: points for number, points in by_week.items() if number not in legal.weeks}

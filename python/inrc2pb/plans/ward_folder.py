@@ -18,7 +18,7 @@ from ..sheets.gone_days import Gone, with_gone
 from ..sheets.older_names import Begin
 from ..sheets.open_shifts import OpenShift
 from ..sheets.period_row import weeks_of_period
-from ..sheets.plan_days import read_days
+from ..sheets.plan_days import head_dates, read_days
 from ..sheets.sheet_files import Book, read_book
 from ..sheets.ward import Ward, ward_name, ward_of
 from ..sheets.written_days import DayWord
@@ -71,6 +71,7 @@ class WardFolder:
         self.plans = top / PLANS
         self._book = Kept[Book]()
         self._ward = Kept[Ward]()
+        self._dates = Kept[frozenset[datetime.date]]()
 
     def spreadsheet(self) -> Path:
         """The only spreadsheet of the folder; the folder itself if its sheets are .csv files."""
@@ -130,6 +131,11 @@ class WardFolder:
     def days(self) -> PlanDays:
         """All days of the sheet plan."""
         return read_days(self.book()).sheet
+
+    def dates(self) -> frozenset[datetime.date]:
+        """The dates of the heads of the sheet plan; none if some of them have none."""
+        files = tables_of(self.spreadsheet())
+        return self._dates.of(files, None, lambda: head_dates(self.book()))
 
     def usual_weeks(self) -> int | None:
         """The weeks of a period, if the spreadsheet says how many."""

@@ -88,13 +88,13 @@ def read_days(book: Book, period: PlanDays | None = None) -> Days:
     return Days(plan, columns[first : first + period.total], period.monday, sheet)
 
 
-def head_dates(book: Book) -> frozenset[datetime.date] | None:
-    """The dates of the heads of the sheet plan; None if some of them have none."""
+def head_dates(book: Book) -> frozenset[datetime.date]:
+    """The dates of the heads of the sheet plan; none if some of them have none."""
     with contextlib.suppress(FileFault, FileFaults):
         heads = Table(book, "plan", ("nurse",), open_end=True).others
         dates = [date for head in heads for date in [date_of(head)] if date]
-        return frozenset(dates) if len(dates) == len(heads) else None
-    return None
+        return frozenset(dates) if len(dates) == len(heads) else frozenset()
+    return frozenset()
 
 
 def plan_warnings(days: Days, scenario: Scenario) -> Iterator[str]:

@@ -12,6 +12,7 @@ from test_next_period import PeriodTest
 from test_plans import MONDAY, TWO_WEEKS
 from ward import HAS_CBC, clock, run
 
+from inrc2pb.plans.broken_days import without_broken
 from inrc2pb.plans.exchanges import more_even
 from inrc2pb.plans.offers import offers_of
 from inrc2pb.plans.plan_files import read_state
@@ -254,6 +255,43 @@ class BegunDays(PeriodTest):
         self.assertEqual(printed.count("Chen may not work Late on Wed after Night on Tue\n"), 1)
         self.assertIn("plan again, from Wed 2 Dec on\n", printed)
         self.assertEqual(read_state(self.last()).open_week, 0)
+
+    @unittest.skipUnless(HAS_CBC, "cbc is not installed")
+    def test_the_rest_of_a_week_in_which_a_hard_rule_was_broken_is_planned(self):
+        # Night on Tuesday may not come before Late on Wednesday, nor Late then before Day.
+        with today_is(2026, 12, 2):
+            printed = self.does("over", "Chen", "Tue", "Night", "Chen", "Wed", "Late")
+        self.assertIn("Chen may not work Late on Wed after Night on Tue\n", printed)
+        worked = {cell for cell in read_state(self.last()).cells if cell.day < 3}
+        printed = self.does("ill", "Grace", "Fri")
+        self.assertIn("Grace, Fri 4 Dec: ill instead of Day Nurse\n", printed)
+        says = "week 1 (calendar week 49) has no points, since days of it break a hard rule\n"
+        self.assertIn(says, printed)
+        self.assertNotIn("week 1 (calendar week 49): ", printed)
+        self.does("set", "Grace", "Sat", "Day/Nurse", "--do", "--time", "0")
+        self.does("plan")
+        state = read_state(self.last())
+        self.assertEqual({cell for cell in state.cells if cell.day < 3}, worked)
+        shifts = {cell.day: cell.shift for cell in state.cells if cell.nurse == "Chen"}
+        self.assertNotEqual(shifts.get(3), "Day")
+        with today_is(2026, 12, 7):
+            self.does("over")
+        self.assertIn("week 2", self.does("plan"))
+
+    @unittest.skipUnless(HAS_CBC, "cbc is not installed")
+    def test_a_hard_rule_that_the_first_day_of_a_week_breaks(self):
+        # Chen has Night on Sunday, Day on Monday, and so no Day after Late on Tuesday.
+        with today_is(2026, 12, 7):
+            self.does("over")
+        with today_is(2026, 12, 8):
+            self.does("over", "Chen", "7.12.", "Late", "Chen", "8.12.", "off")
+            self.does("over", "Chen", "7.12.", "Late")
+            plan = self.verbs().current()
+            self.assertTrue(without_broken(plan).broken)
+            self.does("ill", "Grace", "10.12.")
+        state = read_state(self.last())
+        shifts = {cell.day: cell.shift for cell in state.cells if cell.nurse == "Chen"}
+        self.assertEqual((shifts[7], 8 in shifts), ("Late", False))
 
     def test_days_that_have_not_begun(self):
         for words in ("Finn Thu off", "Finn Tue off Grace 7.12. ill"):
