@@ -4,7 +4,7 @@ should have shift types with a maximum that holds on more days in a row."""
 
 from typing import Collection, Iterator, Mapping, NamedTuple
 
-from ..week.records import History, NurseDay, Scenario, in_a_row
+from ..week.records import History, NurseDay, Scenario, in_a_row, together
 
 
 class DaysAway(NamedTuple):
@@ -61,13 +61,12 @@ def long_runs(
 ) -> Iterator[LongRun]:
     """The runs of shift types with a maximum that holds that are too long, if nurses have these
     shift types."""
-    for nurse, shift in dict.fromkeys((place[0], shift) for place, shift in sorted(works.items())):
-        if shift not in away.kept:
-            continue
+    kept = ((place, shift) for place, shift in sorted(works.items()) if shift in away.kept)
+    of_shifts = together(((nurse, shift), day) for (nurse, day), shift in kept)
+    for (nurse, shift), mine in of_shifts.items():
         most = scenario.shift_types[shift].consecutive.maximum
         past = history.nurses[nurse]
         before = past.consecutive_shifts if past.last_shift == shift else 0
-        mine = {day for (who, day), its in works.items() if (who, its) == (nurse, shift)}
         for days in in_a_row(mine):
             number = len(days) + (before if days[0] == 0 else 0)
             if number > most:
@@ -78,10 +77,11 @@ def long_rows(
     scenario: Scenario, history: History, away: DaysAway, works: Collection[NurseDay]
 ) -> Iterator[LongRow]:
     """The rows of days with training that are too long, if nurses work on these days."""
+    of_nurses = together({*works, *away.training})
     for nurse in dict.fromkeys(nurse for nurse, _ in sorted(away.training)):
         most = scenario.contract_of(nurse).working_days.maximum
         past = history.nurses[nurse].working_days
-        for days in in_a_row({day for who, day in (*works, *away.training) if who == nurse}):
+        for days in in_a_row(of_nurses[nurse]):
             number = len(days) + (past if days[0] == 0 else 0)
             if number > most and any((nurse, day) in away.training for day in days):
                 yield LongRow(nurse, days, number, most)

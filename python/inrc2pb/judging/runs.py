@@ -12,6 +12,8 @@ from .rules import SUNDAY
 
 # More than any cost: a choice that a hard rule forbids.
 NEVER = 1 << 50
+# What a day above a maximum that holds costs, in points, if rows may have it.
+ABOVE_LIMIT = 600
 
 
 class RunState(NamedTuple):
@@ -34,6 +36,16 @@ class RunState(NamedTuple):
 ANY_CHOICE = 255
 
 
+class NextDays(NamedTuple):
+    """A nurse's choices on the first days after the last one, and her contract then; whether her
+    maximum of days of work in a row holds, and the shift types whose maximum does."""
+
+    contract: Contract
+    choices: bytes
+    holds: bool = False
+    kept: frozenset[str] = frozenset()
+
+
 class Beside(NamedTuple):
     """A nurse's days away that concern the days beside them."""
 
@@ -50,17 +62,21 @@ class Beside(NamedTuple):
     call: int = 0
     # The shift types of which she should have no more days in a row than their maximum.
     kept: frozenset[str] = frozenset()
+    # The days after the last one, if they are known: runs go on there.
+    then: NextDays | None = None
 
 
 Step = tuple[int, RunState]
 
 
-def shortened(run: int, limits: Limits, left: int) -> int:
-    """The shortest run that costs the same as this one in the days that are left."""
-    enough = max(limits.minimum, 1)
-    if run >= enough and run + left <= limits.maximum:
+def shortened(run: int, limits: Limits, left: int, then: Limits | None = None) -> int:
+    """The shortest run that costs the same as this one in the days that are left, which have these
+    limits, and the last of them perhaps others."""
+    later = then or limits
+    enough = max(limits.minimum, later.minimum, 1)
+    if run >= enough and run + left <= min(limits.maximum, later.maximum):
         return enough
-    return min(run, max(enough, limits.maximum))
+    return min(run, max(enough, limits.maximum, later.maximum))
 
 
 def ended(run: int, limits: Limits, weight: int) -> int:
@@ -74,7 +90,7 @@ class Runs:
 
     `shift_run` is the weight of a charge of a run of a shift type, and `above` what a day of work
     above the maximum in a row costs more, in points; NEVER forbids it. `beside` has days away that
-    concern the days beside them.
+    concern the days beside them, and what follows the last day.
     """
 
     def __init__(
@@ -93,6 +109,10 @@ class Runs:
         self._shift_run = shift_run
         self._above = above
         self._beside = beside
+        self._then = runs_then(types, beside.then, shift_run) if beside.then and charging else None
+        self._later = self._then.days if self._then else 0
+        then = self._then.contract if self._then else contract
+        self._work_then, self._off_then = then.working_days, then.days_off
         self._known: dict[tuple[int, RunState], list[Step]] = {}
         self.shifts = [Limits(0, 0), *(kind.consecutive for kind in types)]
         self.numbers = {kind.name: number for number, kind in enumerate(types, 1)}
@@ -116,11 +136,11 @@ class Runs:
         """The state after a choice and runs of these lengths, if this number of days is left."""
         if not self.charging:
             return RunState(choice, 0, 0, 0)
+        left += self._later
         shift_run = shortened(shift, self.shifts[choice], left) if shift else 0
-        work_run = shortened(work, self.contract.working_days, left) if work else 0
-        return RunState(
-            choice, shift_run, work_run, shortened(off, self.contract.days_off, left) if off else 0
-        )
+        work_run = shortened(work, self.contract.working_days, left, self._work_then) if work else 0
+        off_run = shortened(off, self.contract.days_off, left, self._off_then) if off else 0
+        return RunState(choice, shift_run, work_run, off_run)
 
     def steps(self, day: int, now: RunState) -> list[Step]:
         """For each choice on a day what it costs, in points, and the state at its end; NEVER, if a
@@ -152,7 +172,7 @@ class Runs:
         steps = [(rest, self.state(0, 0, 0, now.off_run + 1, left))]
         work_above = WORK_RUN + self._above if now.work_run + 1 > work.maximum else 0
         works = ended(now.off_run, off, DAYS_OFF_RUN) + work_above + (0 if now.choice else half)
-        run = shortened(now.work_run + 1, work, left)
+        run = shortened(now.work_run + 1, work, left + self._later, self._work_then)
         forbidden = self.forbidden[now.choice]
         for choice, limits in enumerate(self.shifts[1:], 1):
             if choice in forbidden or works >= NEVER:
@@ -164,12 +184,25 @@ class Runs:
                 if length > limits.maximum:
                     is_kept = choice in self._kept and day >= self._beside.fixed
                     cost += self._shift_run + (self._beside.cost if is_kept else 0)
-                steps.append((cost, RunState(choice, shortened(length, limits, left), run, 0)))
-        return (
-            [self._with_days_away(day, now, step) for step in steps]
-            if self._beside.cost or self._beside.call
-            else steps
-        )
+                shift_run = shortened(length, limits, left + self._later)
+                steps.append((cost, RunState(choice, shift_run, run, 0)))
+        if self._beside.cost or self._beside.call:
+            steps = [self._with_days_away(day, now, step) for step in steps]
+        if self._then and self._beside.then and not left:
+            choices = self._beside.then.choices
+            return [(cost + self._then.along(to, choices), to) for cost, to in steps]
+        return steps
+
+    def along(self, now: RunState, choices: bytes) -> int:
+        """What these choices cost after a state, up to one that a hard rule forbids."""
+        now = RunState(*now[:4])
+        total = 0
+        for day, choice in enumerate(choices):
+            cost, now = self.steps(day, now)[choice]
+            if cost >= NEVER:
+                break
+            total += cost
+        return total
 
     def _with_days_away(self, day: int, before: RunState, step: Step) -> Step:
         """The step with the run of work and training at the end of the day, and with what that, a
@@ -198,3 +231,16 @@ class Runs:
         cost += away.call if is_called and not before.is_called else 0
         trained = shortened(run, limits, self.days - day - 1) if run else 0
         return cost, now._replace(trained=trained, is_due=is_due, is_called=is_called)
+
+
+def runs_then(types: Sequence[ShiftType], then: NextDays, shift_run: int = SHIFT_RUN) -> Runs:
+    """The runs of a nurse on the days after the last one."""
+    above = ABOVE_LIMIT if then.holds else 0
+    beside = Beside(kept=then.kept, cost=ABOVE_LIMIT if then.kept else 0)
+    return Runs(types, then.contract, len(then.choices), True, shift_run, above, beside)
+
+
+def cost_then(types: Sequence[ShiftType], then: NextDays, past: NurseHistory) -> int:
+    """What the days after the last one cost a nurse who has this history then."""
+    runs = runs_then(types, then)
+    return runs.along(runs.before(past), then.choices)

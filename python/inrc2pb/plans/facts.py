@@ -12,6 +12,7 @@ from ..judging.breaches import breaches
 from ..judging.days_away import DaysAway, long_rows, long_runs, nights_before
 from ..judging.limits import exceeded
 from ..judging.rules import SATURDAY, Charge
+from ..judging.runs import NextDays
 from ..shown.totals import Sums, sums_of
 from ..week.facts import SHIFT_RUNS, SHIFTS, WORK_DAYS, Charged
 from ..week.records import WEEK_DAYS, Cell, NurseDay, Request
@@ -189,11 +190,7 @@ def _exceeded(plan: WardPlan) -> dict[_Exceeded, int]:
     exceeded_by.update(
         {(many.nurse, _TOTAL, 0): many.shifts - many.most for many in too_many_shifts(plan)}
     )
-    kept = {
-        fact.nurse
-        for fact, _ in plan.limits
-        if isinstance(fact, Charged) and fact.kind == WORK_DAYS
-    }
+    kept = _keeping_work_days(plan)
     rows = beside_days_away(plan) if plan.is_planned else []
     exceeded_by.update(
         {
@@ -248,6 +245,26 @@ def beside_of(plan: WardPlan, away: DaysAway, shifts: Mapping[NurseDay, str]) ->
             )
         )
     return odd
+
+
+def _keeping_work_days(plan: WardPlan) -> set[str | None]:
+    """The nurses whose maximum of days of work in a row holds."""
+    charged = (fact for fact, _ in plan.limits if isinstance(fact, Charged))
+    return {fact.nurse for fact in charged if fact.kind == WORK_DAYS}
+
+
+def next_days(plan: WardPlan) -> dict[str, NextDays]:
+    """What nurses have after the last day, if the next period is planned."""
+    numbers = {shift: number for number, shift in enumerate(plan.scenario.shift_types, 1)}
+    kept = _keeping_work_days(plan)
+    rows = {
+        nurse: bytes(numbers.get(shift, 0) for shift in then.shifts)
+        for nurse, then in plan.ward.border.items()
+    }
+    return {
+        nurse: NextDays(plan.ward.border[nurse].contract, row, nurse in kept, plan.ward.kept_runs)
+        for nurse, row in rows.items()
+    }
 
 
 def sums(plan: WardPlan) -> dict[str, Sums]:

@@ -83,8 +83,9 @@ class _Judge:
         )
 
     def _points(self, nurse: str, cells: Mapping[int, Cell]) -> int:
-        """What the nurse is charged, with the points of her changes, as a search counts them; a
-        nurse without shifts in the old plan may have any."""
+        """What the nurse is charged, also for the first days of the next period, with the points of
+        her changes, as a search counts them; a nurse without shifts in the old plan may have
+        any."""
         before = self._before[nurse]
         changed = (
             [day for day in {*before, *cells} if is_other_shift(before.get(day), cells.get(day))]
@@ -97,7 +98,8 @@ class _Judge:
             for day in changed
             if day in cells
         )
-        return self._alone.cost(nurse, cells) + new + (CALL_POINTS if is_called else 0)
+        charged = self._alone.cost(nurse, cells) + self._alone.cost_then(nurse, cells)
+        return charged + new + (CALL_POINTS if is_called else 0)
 
     def _changes(self, nurse: str, cells: Mapping[int, Cell]) -> int:
         """The days of the nurse with another shift or skill: of equal plans the one with fewer of

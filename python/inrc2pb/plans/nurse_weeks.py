@@ -10,8 +10,18 @@ from ..judging.limits import exceeded, excess
 from ..judging.next_history import next_nurse_history
 from ..judging.obstacles import Obstacle, obstacles
 from ..judging.rules import Charge, costs
-from ..week.records import Cell, History, NurseDay, Week, WeekData, in_week
-from .facts import WrongBeside, beside_of
+from ..judging.runs import cost_then
+from ..week.records import (
+    Cell,
+    History,
+    NurseDay,
+    NurseHistory,
+    Week,
+    WeekData,
+    in_week,
+    together,
+)
+from .facts import WrongBeside, beside_of, next_days
 from .state import SetDay
 from .ward import WardPlan
 
@@ -62,23 +72,32 @@ class NurseWeeks:
     def __init__(self, plan: WardPlan) -> None:
         self._plan = plan
         self._held = by_nurse(plan, plan.held)
-        self._data: dict[tuple[str, int], WeekData] = {
-            (nurse, number): _of_nurse(plan.data[number], nurse)
-            for nurse in plan.scenario.nurses
-            for number in plan.weeks
-        }
+        self._then = next_days(plan)
+        self._data = {number: _of_nurses(plan.data[number]) for number in plan.weeks}
 
     def _weeks(self, nurse: str, cells: NurseCells) -> Iterator[tuple[Week, tuple[Cell, ...]]]:
         """Each week, with her shifts."""
         plan = self._plan
         scenario = replace(plan.scenario, nurses={nurse: plan.scenario.nurses[nurse]})
-        past = plan.past.nurses[nurse]
-        for number in plan.weeks:
+        for number, past in zip(plan.weeks, self._pasts(nurse, cells)):
             of_week = in_week(cells.values(), number)
-            yield Week(
-                scenario, History(number, scenario.name, {nurse: past}), self._data[nurse, number]
-            ), of_week
-            past = next_nurse_history(past, {cell.day: cell.shift for cell in of_week})
+            data = self._data[number].get(nurse, self._data[number][""])
+            yield Week(scenario, History(number, scenario.name, {nurse: past}), data), of_week
+
+    def _pasts(self, nurse: str, cells: NurseCells) -> list[NurseHistory]:
+        """Her history before each week, and after the last one."""
+        pasts = [self._plan.past.nurses[nurse]]
+        for number in self._plan.weeks:
+            shifts = {cell.day: cell.shift for cell in in_week(cells.values(), number)}
+            pasts.append(next_nurse_history(pasts[-1], shifts))
+        return pasts
+
+    def cost_then(self, nurse: str, cells: NurseCells) -> int:
+        """What the first days of the next period cost her after these shifts, if it is planned."""
+        if nurse not in self._then:
+            return 0
+        types = tuple(self._plan.scenario.shift_types.values())
+        return cost_then(types, self._then[nurse], self._pasts(nurse, cells)[-1])
 
     def cost(self, nurse: str, cells: NurseCells) -> int:
         """What the nurse is charged for these shifts."""
@@ -143,15 +162,19 @@ class NurseWeeks:
         }
 
 
-def _of_nurse(data: WeekData, nurse: str) -> WeekData:
-    """What a week's file has about one nurse."""
-    requests = tuple(request for request in data.requests if request.nurse == nurse)
-    return replace(
-        data,
-        requirements={},
-        requests=requests,
-        limits=frozenset(limit for limit in data.limits if limit.nurse == nurse),
-    )
+def _of_nurses(data: WeekData) -> dict[str, WeekData]:
+    """What a week's file has about each nurse whom it names, and, without a name, about others."""
+    requests = together((request.nurse, request) for request in data.requests)
+    limits = together((limit.nurse, limit) for limit in data.limits)
+    return {
+        nurse: replace(
+            data,
+            requirements={},
+            requests=tuple(requests.get(nurse, ())),
+            limits=frozenset(limits.get(nurse, ())),
+        )
+        for nurse in ("", *requests, *limits)
+    }
 
 
 def by_nurse(plan: WardPlan, works: Mapping[NurseDay, Cell]) -> dict[str, dict[int, Cell]]:

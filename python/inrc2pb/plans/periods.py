@@ -7,6 +7,7 @@ A period begins as the one before it ends. That is computed each time, and never
 period before it is known, so no correction of the past is lost.
 """
 
+import itertools
 from dataclasses import dataclass, replace
 from pathlib import Path
 from typing import Iterable, Iterator, Mapping, NamedTuple, Sequence
@@ -16,10 +17,11 @@ from ..judging.next_history import next_history
 from ..judging.odd_values import Reach
 from ..sheets.open_shifts import lowered
 from ..sheets.sheet_files import Book
-from ..sheets.ward import Border, Ward
+from ..sheets.border import NextShifts
+from ..sheets.ward import Ward
 from ..sheets.written_days import BACK, DayWord
 from ..week.dates import PlanDays, Times
-from ..week.facts import Choice, Claim, read_facts, read_reasons
+from ..week.facts import read_facts, read_reasons
 from ..week.files import read_history, read_scenario, read_solution, read_week
 from ..week.records import WEEK_DAYS, Cell, History, NurseDay, Scenario, in_plan
 from .plan_files import known_record, read_record, read_state, roster_name
@@ -111,18 +113,20 @@ def end_of(period: Period, state: State | None = None) -> History:
     return past
 
 
-def border_of(ward: Ward, after: State) -> tuple[Border, ...]:
-    """The shifts that nurses may not have on the last day of a period, since what they have on the
-    first day of the next one may not follow them."""
-    scenario = ward.scenario
-    week = ward.days.weeks
-    first = {cell.nurse: cell.shift for cell in after.cells if cell.day == 0}
-    return tuple(
-        Border(Claim(Choice(week, nurse, WEEK_DAYS - 1, shift), holds=False), nurse, shift, then)
-        for nurse, then in first.items()
-        for shift in scenario.shift_types
-        if nurse in scenario.nurses and scenario.forbids(shift, then)
-    )
+def border_of(ward: Ward, after: Period) -> dict[str, NextShifts]:
+    """The first shifts in a period of the nurses of a ward before it. Days after the first change
+    between work and days off depend on nothing before the period."""
+    state = state_of(after)
+    then = read_scenario(after.folder / "ward.txt")
+    names = ward.names_since(state.was)
+    contracts = {names.nurse(nurse): then.contract_of(nurse) for nurse in then.nurses}
+    works = {cell.nurse_day: cell.shift for cell in state.renamed(names).cells}
+    found: dict[str, NextShifts] = {}
+    for nurse in (nurse for nurse in ward.scenario.nurses if nurse in contracts):
+        shifts = [works.get(NurseDay(nurse, day), "") for day in range(after.days.total)]
+        same = itertools.takewhile(lambda shift: bool(shift) == bool(shifts[0]), shifts)
+        found[nurse] = NextShifts(contracts[nurse], tuple(shifts[: len(list(same)) + 1]))
+    return found
 
 
 # ---- the ward of a period, as its folder has it

@@ -144,6 +144,8 @@ class Planned(Outcome):
         said += evenness_lines(new, self.last_year)
         if not missing and not self.asked.few_changes:
             said.append(bound_text(self.bound, number_of(open_from(new, new.first))))
+            if new.ward.border:
+                said.append("The search also counts what the next period costs after this plan.")
             if new.state.is_as_planned:
                 said.append("This holds if the period before it ends as planned.")
         if self.is_stopped:

@@ -20,7 +20,7 @@ from .left_open import filled, left_open, open_from, with_fewer_open, with_open,
 from .needless_changes import without_needless_changes
 from .planned import Cause, NoPlan, Planned
 from .offers import given_up
-from .searching import Asked, Found, Keep, search_plan, shortages
+from .searching import Asked, Found, Keep, extra_text, search_plan, shortages
 from .store import PlanStore, penalties, wide_gap
 from .verb import Event, Outcome, Status, saved
 from .ward import WardPlan, for_leavers, without_border
@@ -143,7 +143,7 @@ def _planned(
     """The best plan that a search finds, which is not written."""
     say(store, search_lines(old, asked, store.means.end))
     asked = asked._replace(call_points=_call_points(cause.old if cause else old))
-    store.means.progress.counts_changes = asked.few_changes and old.is_planned
+    store.means.progress.counts = extra_text(old, asked.few_changes)
     try:
         found = _filling(store, old, asked._replace(seconds=asked.seconds - _evening(asked)))
     except Stopped:
@@ -328,7 +328,7 @@ def _found(store: PlanStore, old: WardPlan, asked: Asked) -> Found:
         if fault.status != NO_ROSTER:
             raise
     store.means.say(WITHOUT_AGREED)
-    store.means.progress.counts_changes = old.is_planned
+    store.means.progress.counts = extra_text(old, True)
     second = _with_rest(asked, clock)._replace(agreed=Keep.MOST)
     free = search_plan(old, second, store.means.progress)
     return firm if firm and len(unkept(firm.plan)) <= len(unkept(free.plan)) else free

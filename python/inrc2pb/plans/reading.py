@@ -128,7 +128,7 @@ class PlanReader:
             state.start.scenario, state.absences, days, state.opened, begin, gone
         )
         after = periods.get(number + 1)
-        border = border_of(ward, self._named(state_of(after), ward)) if after else ()
+        border = border_of(ward, after) if after else {}
         later = sum(period.days.weeks for period in periods.values() if period.number > number)
         if before and past:
             past = renamed(past, ward.names_since(state_of(before).was))

@@ -4,8 +4,9 @@ from dataclasses import replace
 from typing import Callable
 
 from ..judging.runs import NEVER
-from ..rows.plan import Plan
+from ..rows.plan import Extra, Plan
 from ..rows.pricing import Crews, Pricing
+from .facts import next_days
 from .ward import WardPlan
 
 
@@ -32,13 +33,14 @@ class Work:
 class RowCosts:
     """What a nurse is charged for a row of choices, as a search counts it: 0 for a day off, and one
     more than the index of its shift type otherwise. Limits that hold and days away do not count
-    here."""
+    here, and the first days of the next period do, if it is planned."""
 
     def __init__(self, plan: WardPlan, work: Work) -> None:
         weeks = replace(
             Plan.of(plan.scenario, plan.past, plan.data[plan.state.open_week :]),
             away=frozenset(),
             limits=frozenset(),
+            extra=Extra(then=next_days(plan)),
         )
         self._pricing = Pricing(weeks, Crews(weeks), lambda: None)
         self._work = work

@@ -13,7 +13,7 @@ from ..programs.clock import Clock
 from ..programs.interrupts import interrupts
 from ..programs.program import WeekFiles
 from ..programs.progress import Progress
-from ..rows.plan import Calls
+from ..rows.plan import Extra
 from ..search.best_plan import BestPlan
 from ..search.bounds import PLAIN, Bound
 from ..search.plan_search import PlanSearch
@@ -26,6 +26,7 @@ from ..week.records import WEEK_DAYS, Cell, NurseDay, Solution, Week, WeekData, 
 from ..week.writing import write_text
 from .broken_days import without_broken
 from .changes import CALL_POINTS, days_off_beside_absences, with_few_changes, with_old_skills
+from .facts import next_days
 from .limits import limits_for_leavers
 from .ward import WardPlan
 
@@ -99,15 +100,7 @@ def search_plan(old: WardPlan, asked: Asked, progress: Progress) -> Found:
     with tempfile.TemporaryDirectory(prefix="inrc2pb-plan-") as name:
         files = _files(old, asked, Path(name))
         beside = old.days_away._replace(fixed=asked.first - old.first)
-        weeks = _weeks(
-            files,
-            beside,
-            (
-                Calls(_older_rows(old), asked.call_points)
-                if asked.few_changes and old.is_planned
-                else Calls()
-            ),
-        )
+        weeks = _weeks(files, beside, _extra(old, asked))
         start = (
             [cell._replace(day=cell.day - old.first) for cell in old.cells]
             if old.is_planned
@@ -130,11 +123,27 @@ def search_plan(old: WardPlan, asked: Asked, progress: Progress) -> Found:
     cells = [cell._replace(day=cell.day + old.first) for cell in best.cells]
     labelled = with_old_skills(old.scenario, cells, [*old.cells, *old.held.values()])
     bound = (
-        KnownBound(best.cost, search.bound, search.bound_beside, bool(beside.kept))
-        if search.bound and best.cost is not None and not broken
+        KnownBound(best.penalty, search.bound, search.bound_beside, bool(beside.kept))
+        if search.bound and best.penalty is not None and not broken
         else None
     )
     return Found(whole.with_cells([*labelled, *broken]), bound, clock.stopped)
+
+
+def _extra(old: WardPlan, asked: Asked) -> Extra:
+    """What a search counts beyond the charges of its weeks: nurses to call, if few shifts may
+    change, and the first days of the next period, if it is planned."""
+    then = next_days(old)
+    if not (asked.few_changes and old.is_planned):
+        return Extra(then=then)
+    return Extra(_older_rows(old), asked.call_points, then)
+
+
+def extra_text(old: WardPlan, counts_changes: bool) -> str:
+    """For what a search counts more points than its plan costs."""
+    changes = "changed shifts" if counts_changes and old.is_planned else ""
+    then = "the first days of the next period" if old.ward.border else ""
+    return " and ".join(filter(None, (changes, then)))
 
 
 def _older_rows(old: WardPlan) -> dict[str, bytes]:
@@ -152,11 +161,11 @@ def _older_rows(old: WardPlan) -> dict[str, bytes]:
     return rows
 
 
-def _weeks(files: PeriodFiles, beside: DaysAway, calls: Calls) -> PlannedWeeks:
+def _weeks(files: PeriodFiles, beside: DaysAway, extra: Extra) -> PlannedWeeks:
     """The weeks of these files. A fault names a file without its folder, which is there for the
     search only."""
     try:
-        return PlannedWeeks(files, beside, calls)
+        return PlannedWeeks(files, beside, extra)
     except FileFault as fault:
         raise FileFault(
             fault.path.name,

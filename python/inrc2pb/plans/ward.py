@@ -253,7 +253,7 @@ def plan_of(ward: Ward, state: State, unknown: tuple[Cell, ...] = ()) -> WardPla
 
 def without_border(plan: WardPlan) -> WardPlan:
     """The plan, without regard to the shifts of the next period."""
-    return plan_of(plan.ward.with_border((), plan.ward.later_weeks), plan.state)
+    return plan_of(plan.ward.with_border({}, plan.ward.later_weeks), plan.state)
 
 
 def for_leavers(plan: WardPlan, first: int) -> WardPlan:

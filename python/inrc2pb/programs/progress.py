@@ -26,8 +26,8 @@ class Progress:
         self._penalty: int | None = None
         self._bound: int | None = None
         self._finder = ""
-        # Whether the penalties of the search that runs have also points for changed shifts.
-        self.counts_changes = False
+        # For what the penalties of the search that runs have more points than its plans.
+        self.counts = ""
 
     def improved(self, penalty: int, finder: str) -> None:
         """A roster of this penalty was found."""
@@ -98,13 +98,13 @@ class Progress:
 
 class WardProgress(Progress):
     """The same for people who plan a ward: in points, and with what cannot be avoided, unless that
-    has points for changed shifts, which the plan at the end has not."""
+    has points that the plan at the end has not."""
 
     def _words(self) -> str:
         if self._penalty is None:
             return "no plan yet"
-        if self.counts_changes:
-            return f"{self._penalty} points, those for changed shifts among them"
+        if self.counts:
+            return f"{self._penalty} points, those for {self.counts} among them"
         least = "" if self._bound is None else f"; at least {self._bound} cannot be avoided"
         return f"{self._penalty} points{least}"
 

@@ -21,7 +21,7 @@ from typing import (
 
 from ..judging.absences import MARK, absences_of
 from ..judging.days_away import DaysAway
-from ..judging.runs import NEVER, Beside
+from ..judging.runs import ABOVE_LIMIT, NEVER, Beside, NextDays
 from ..week.facts import SHIFTS, WEEKENDS, Charged, Choice, Claim
 from ..week.records import (
     WEEK_DAYS,
@@ -50,12 +50,14 @@ FEW_WEEKS = 4
 Held = Dict[Tuple[str, int], List[Cell]]
 
 
-class Calls(NamedTuple):
-    """The rows of nurses in an older roster, and what a nurse costs whose row differs from it, in
-    points. ANY_CHOICE differs from none."""
+class Extra(NamedTuple):
+    """What plans cost beyond the charges of their weeks. A nurse costs `call` points if her row
+    differs from that of an older roster; ANY_CHOICE differs from none. And the days after the last
+    one cost what they do if runs go on there."""
 
     older: Mapping[str, bytes] = {}
-    points: int = 0
+    call: int = 0
+    then: Mapping[str, NextDays] = {}
 
 
 class Keeping(NamedTuple):
@@ -70,8 +72,8 @@ STRICT = Keeping(NEVER, NEVER)
 ONLY_ABSENCES = Keeping(NEVER, 0)
 FREE = Keeping(0, 0)
 # If no roster keeps all: absences come first.
-ABSENCES_KEPT = Keeping(NEVER, 600)
-FEW_BROKEN = Keeping(3000, 600)
+ABSENCES_KEPT = Keeping(NEVER, ABOVE_LIMIT)
+FEW_BROKEN = Keeping(3000, ABOVE_LIMIT)
 
 
 @dataclass(frozen=True)
@@ -97,7 +99,7 @@ class Plan:
     limits: FrozenSet[KeptLimit] = frozenset()
     keeping: Keeping = STRICT
     beside: DaysAway = DaysAway()
-    calls: Calls = Calls()
+    extra: Extra = Extra()
 
     @staticmethod
     def of(
@@ -195,15 +197,18 @@ class Plan:
         )
 
     def beside_of(self, nurse: str) -> Beside:
-        """The nurse's days away that concern the days beside them, if these are kept, and her older
-        row."""
+        """The nurse's days away that concern the days beside them, if these are kept, her older
+        row, and what she has after the last day."""
         training, free = (
             frozenset(day for who, day in days if who == nurse) for days in self.beside[:2]
         )
-        older = self.calls.older.get(nurse, b"")
-        found = Beside(older=older, call=self.calls.points) if self.charging and older else Beside()
+        if not self.charging:
+            return Beside()
+        older = self.extra.older.get(nurse, b"")
+        call = self.extra.call if older else 0
+        found = Beside(older=older, call=call, then=self.extra.then.get(nurse))
         kept = self.beside.kept
-        if not (self.charging and self.keeping.limit and (training or free or kept)):
+        if not (self.keeping.limit and (training or free or kept)):
             return found
         return found._replace(
             training=training,
@@ -262,7 +267,7 @@ class Plan:
             away=away,
             limits=frozenset(),
             beside=DaysAway(),
-            calls=Calls(),
+            extra=Extra(),
         )
 
     def requests(self) -> Dict[str, List[Request]]:

@@ -40,7 +40,7 @@ class Rank(NamedTuple):
     broken: int
     # What it has above the limits that are kept.
     above: int
-    # Its penalty, with the points for calls, and with those of weeks that are not known.
+    # Its penalty, with what it costs beyond, and with those of weeks that are not known.
     cost: int
 
     @property
@@ -96,8 +96,14 @@ class BestPlan:
 
     @property
     def cost(self) -> int | None:
-        """What the best plan costs, with calls and weeks that are not known, if there is one."""
+        """What the best plan costs, with what it costs beyond its charges, and with weeks that are
+        not known, if there is one."""
         return self._best.rank.cost if self._best else None
+
+    @property
+    def penalty(self) -> int | None:
+        """The penalty of its known weeks, if there is one."""
+        return self._best.penalty if self._best else None
 
     @property
     def keeps_all(self) -> bool:
@@ -126,7 +132,7 @@ class BestPlan:
                 if fault.status != BROKEN_RULE:
                     raise
                 return None
-        costs_more = self._weeks.later() or self._plan.calls.points
+        costs_more = self._weeks.later() or any(self._plan.extra)
         points = cost(self._plan, cells) if costs_more else sum(map(objective_of, answers))
         return Accepted(cells, Rank(*self._weeks.not_kept(cells), points), answers)
 
@@ -134,8 +140,8 @@ class BestPlan:
         if self._place:
             self._place.keep(found.cells)
         self._best = found
-        # A bound has the calls, too, but not the weeks that are not known.
-        self._announce(found.rank.cost if self._plan.calls.points else found.penalty, finder)
+        # A bound has these costs, too, but not the weeks that are not known.
+        self._announce(found.rank.cost if any(self._plan.extra) else found.penalty, finder)
 
     def _others(self) -> Accepted | None:
         """The plan that someone else has put into the place, if it keeps the hard rules."""

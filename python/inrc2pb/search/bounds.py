@@ -15,7 +15,7 @@ from ..programs.program import NotInTime, find_program, run_unless_stopped
 from ..programs.progress import gap_share
 from ..rows.case_pricing import CasePricing
 from ..rows.certificate import Certificate
-from ..rows.plan import FREE, STRICT, Calls, Keeping, Plan, Points
+from ..rows.plan import FREE, STRICT, Extra, Keeping, Plan, Points
 from ..rows.pricing import Crews
 from ..rows.row_run import RowRun
 from ..week.facts import Claim, facts_text
@@ -142,7 +142,7 @@ class Bounds:
             return None
         self._write(certificate)
         # Bounds speak of absences and limits alone.
-        plan = replace(run.plan.kept(keeping), beside=DaysAway(), calls=Calls())
+        plan = replace(run.plan.kept(keeping), beside=DaysAway(), extra=Extra())
         only = _only(run.plan, keeping)
         clock = Clock(seconds, self._clock)
         answer = self._prover.answer(self._options, self._name, certificate, plan.facts(), seconds)

@@ -8,9 +8,9 @@ from typing import Dict, Iterator, List, NamedTuple, Optional, Sequence
 from ..judging.days_away import DaysAway
 from ..judging.next_history import next_history
 from ..judging.rules import SATURDAY, costs
-from ..judging.runs import ANY_CHOICE
+from ..judging.runs import ANY_CHOICE, cost_then
 from ..programs.clock import Clock
-from ..rows.plan import Calls, Plan, Points
+from ..rows.plan import Extra, Plan, Points
 from ..rows.pricing import NurseWeek
 from ..rows.row_run import RowRun
 from ..rows.skills import rows_of, staffed
@@ -111,7 +111,7 @@ def beside_others(plan: Plan, weeks: range, cells: Sequence[Cell]) -> Plan:
         part,
         held=held,
         beside=_days_away(plan.beside, first),
-        calls=_calls(plan, range(first, first + part.days), cells),
+        extra=_extra(plan, range(first, first + part.days), cells),
     )
 
 
@@ -135,20 +135,21 @@ def _differing(plan: Plan, days: Sequence[int], cells: Sequence[Cell]) -> Dict[s
     rows = dict(zip(plan.nurses, rows_of(plan, cells)))
     return {
         nurse: any(older[day] not in (rows[nurse][day], ANY_CHOICE) for day in days)
-        for nurse, older in plan.calls.older.items()
+        for nurse, older in plan.extra.older.items()
     }
 
 
-def _calls(plan: Plan, days: range, cells: Sequence[Cell]) -> Calls:
-    """The older rows on these days, of the nurses who need not be called because of other days."""
+def _extra(plan: Plan, days: range, cells: Sequence[Cell]) -> Extra:
+    """The older rows on these days, of the nurses who need not be called because of other days, and
+    the days after them, if they are the last ones."""
     others = [day for day in range(plan.days) if day not in days]
     called = _differing(plan, others, cells)
     older = {
         nurse: row[days.start : days.stop]
-        for nurse, row in plan.calls.older.items()
+        for nurse, row in plan.extra.older.items()
         if not called[nurse]
     }
-    return Calls(older, plan.calls.points)
+    return Extra(older, plan.extra.call, plan.extra.then if days.stop == plan.days else {})
 
 
 def _history(plan: Plan, weeks: range, cells: Sequence[Cell]) -> History:
@@ -178,12 +179,14 @@ def _history(plan: Plan, weeks: range, cells: Sequence[Cell]) -> History:
 
 
 def cost(plan: Plan, cells: Sequence[Cell]) -> int:
-    """What these assignments cost in all weeks of the plan, with the points for calls."""
+    """What these assignments cost in all weeks of the plan, with what they cost beyond that."""
     history = plan.history
-    total = plan.calls.points * sum(_differing(plan, range(plan.days), cells).values())
+    total = plan.extra.call * sum(_differing(plan, range(plan.days), cells).values())
     for number, data in enumerate(plan.weeks):
         rows = in_week(cells, number)
         total += sum(costs(Week(plan.scenario, history, data), rows, plan.early).values())
-        if number + 1 < len(plan.weeks):
-            history = next_history(plan.scenario, history, rows)
-    return total
+        is_last = number + 1 == len(plan.weeks)
+        history = next_history(plan.scenario, history, rows, new_period=is_last)
+    types = tuple(plan.scenario.shift_types.values())
+    then = plan.extra.then.items()
+    return total + sum(cost_then(types, days, history.nurses[nurse]) for nurse, days in then)

@@ -186,8 +186,10 @@ class PlanSearch:
 
         def heard() -> None:
             # What is said last speaks of all plans, not only of those that keep the days beside
-            # days away.
-            speaks_of_all = not (self._weeks.later() or self._beside_days_away)
+            # days away, and of their charges alone.
+            speaks_of_all = not (
+                self._weeks.later() or self._beside_days_away or any(self._weeks.extra)
+            )
             keeps_all = plan.keeping == STRICT and self._best.keeps_all
             if run.lower_bound is not None and speaks_of_all and (keeps_all or not plan.asks):
                 self._progress.bound_rose(run.lower_bound)
@@ -230,7 +232,7 @@ class PlanSearch:
         rank = self._best.rank
         if rank is None or not self._runs or self._weeks.later() or not self._is_bounded:
             return
-        if rank.keeping == STRICT and self._beside_days_away and not self._weeks.calls.points:
+        if rank.keeping == STRICT and self._beside_days_away and not any(self._weeks.extra):
             self.bound_beside = self._runs[0].lower_bound
         self._proves = True
         run = self._runs[0 if rank.keeping == STRICT else -1]

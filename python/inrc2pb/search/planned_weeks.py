@@ -19,7 +19,7 @@ from ..judging.limits import (
 )
 from ..judging.next_history import next_history
 from ..programs.program import WeekFiles
-from ..rows.plan import Calls, Plan
+from ..rows.plan import Extra, Plan
 from ..week.files import (
     check_week_number,
     check_weeks_left,
@@ -111,15 +111,15 @@ class WrittenWeek(NamedTuple):
 
 class PlannedWeeks:
     """The weeks that are planned, as values. `hints` names the fix files that seem to be of another
-    week, and `beside` has the days away that concern the days beside them; `calls` has an older
-    roster."""
+    week, and `beside` has the days away that concern the days beside them; `extra` has what plans
+    cost beyond the charges of these weeks."""
 
     def __init__(
-        self, files: PeriodFiles, beside: DaysAway = DaysAway(), calls: Calls = Calls()
+        self, files: PeriodFiles, beside: DaysAway = DaysAway(), extra: Extra = Extra()
     ) -> None:
         self.files = files
         self.beside = beside
-        self.calls = calls
+        self.extra = extra
         self.hints: List[str] = []
         self.scenario: Scenario = read_scenario(files.scenario)
         self.history: History = read_history(files.history, self.scenario)
@@ -159,7 +159,7 @@ class PlannedWeeks:
         plan = Plan.of(
             self.scenario, self.history, [*self.data, *self.later()], self.files.early, self.held
         )
-        return replace(plan, beside=self.beside, calls=self.calls)
+        return replace(plan, beside=self.beside, extra=self.extra)
 
     def week_files(self, number: int, history: Optional[Path] = None) -> WeekFiles:
         """The files of a week. Its history is the given one of the first week, or another."""

@@ -1,10 +1,10 @@
 """A ward: all that its spreadsheet says, with the days away that verbs have written."""
 
 import re
-from dataclasses import dataclass, replace
+from dataclasses import dataclass, field, replace
 from functools import cached_property
 from pathlib import Path
-from typing import Collection, Iterable, Mapping, NamedTuple, Sequence
+from typing import Collection, Iterable, Mapping, Sequence
 
 from ..judging.absences import NO_SKILL, TooMany, with_requests
 from ..judging.leave import Counted, counted, credited
@@ -26,6 +26,7 @@ from ..week.records import (
     in_week,
 )
 from ..week.slots import MAX_NUMBER
+from .border import Border, border_claims, next_shift
 from .odd_tables import odd_sheets, odd_weeks
 from .employment import employed, with_changed_contracts
 from .open_shifts import OpenShift, lowered
@@ -46,16 +47,6 @@ from .sheet_files import Book, read_book
 from .ward_sheets import NIGHT, WardTables, read_ward, shift_times, table_of
 from .week_rows import WeekRow, week_rows
 from .written_days import DayWord, lost_shifts, with_written
-
-
-class Border(NamedTuple):
-    """A shift that a nurse may not have on the last day, and the one of the first day of the next
-    period, as it is planned, that may not follow it."""
-
-    claim: Claim
-    nurse: str
-    shift: str
-    then: str
 
 
 @dataclass(frozen=True)
@@ -87,8 +78,8 @@ class Ward:
     # The older names of nurses and shift types.
     was: Sequence[Renamed]
     book: Book
-    # The shifts that nurses may not have at the end, since the next period hangs on the wall.
-    border: tuple[Border, ...] = ()
+    # What nurses have at the begin of the next period, if it is planned.
+    border: Border = field(default_factory=dict)
     # The shift types of which nobody has more days in a row than their maximum.
     kept_runs: frozenset[str] = frozenset()
     # The shifts that are left open, without which the minimum numbers of files are.
@@ -115,17 +106,20 @@ class Ward:
         """Its days, and those of the next periods that have plans."""
         return self.days._replace(weeks=self.days.weeks + self.later_weeks)
 
-    def with_border(self, border: tuple[Border, ...], later_weeks: int = 0) -> "Ward":
-        """The same with these shifts that nurses may not have at the end, and these later weeks."""
-        older, new = ([one.claim for one in ones] for ones in (self.border, border))
+    def with_border(self, border: Border, later_weeks: int = 0) -> "Ward":
+        """The same with these shifts after its last day, and these later weeks."""
+        older, new = (
+            dict.fromkeys(border_claims(self.scenario, one, self.days.weeks))
+            for one in (self.border, border)
+        )
         claims = (claim for claim in self.claims if claim not in older)
         return replace(self, claims=(*claims, *new), border=border, later_weeks=later_weeks)
 
     def then(self, nurse: str, day: int, shift: str) -> str:
         """The shift of the next period, on its first day, because of which a nurse may not have
         this one, if it is so."""
-        found = [one.then for one in self.border if (one.nurse, one.shift) == (nurse, shift)]
-        return found[0] if found and day == self.days.total - 1 else ""
+        is_last = day == self.days.total - 1
+        return next_shift(self.scenario, self.border, nurse, shift) if is_last else ""
 
     def with_open(self, opened: Sequence[OpenShift]) -> "Ward":
         """The same with these shifts left open."""

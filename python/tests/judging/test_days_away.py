@@ -17,7 +17,7 @@ from inrc2pb.judging.days_away import (
     nights_before,
 )
 from inrc2pb.judging.runs import ANY_CHOICE
-from inrc2pb.rows.plan import ABSENCES_KEPT, Calls, Plan
+from inrc2pb.rows.plan import ABSENCES_KEPT, Extra, Plan
 from inrc2pb.rows.pricing import Crews, Pricing
 from inrc2pb.week.dates import times_of
 
@@ -190,7 +190,7 @@ class Rows(unittest.TestCase):
             for nurse in WARD.nurses
             if nurse != "Finn"
         }
-        called = replace(plain, calls=Calls(older, 40))
+        called = replace(plain, extra=Extra(older, 40))
         without, costs = (Pricing(one, Crews(one), lambda: None) for one in (plain, called))
         for number, nurse in enumerate(WARD.nurses):
             row = bytes(

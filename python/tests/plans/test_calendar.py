@@ -1,6 +1,7 @@
 """Tests of a next period that is planned before this one ends."""
 
 import datetime
+import io
 import re
 import shutil
 import unittest
@@ -14,9 +15,11 @@ from ward import HAS_CBC, run
 
 from inrc2pb.plans.plan_files import read_state
 from inrc2pb.plans.facts import breaks
-from inrc2pb.plans.store import PlanStore, plan_texts
+from inrc2pb.plans.store import Means, PlanStore, plan_texts
+from inrc2pb.plans.table import Verbs
 from inrc2pb.plans.verb import Event
 from inrc2pb.plans.ward_folder import WardFolder
+from inrc2pb.programs.progress import WardProgress
 from inrc2pb.week.dates import PlanDays
 from inrc2pb.week.records import WEEK_DAYS, Cell
 
@@ -395,6 +398,49 @@ class NextBeforeTheEnd(CalendarTest):
         self.assertEqual(points, after)
         self.does("set", "Amara", "13.12.", "off", "--time", "0", "--open", "--do")
         self.assertEqual(self.january().view().penalty, before)
+
+    @unittest.skipUnless(HAS_CBC, "cbc is not installed")
+    def test_a_search_counts_what_january_costs_after_it(self):
+        # Chen has Night on Sunday. Ewa, who is off, could have it, and so could Dilek, who has Day.
+        self.does("page")
+        self.plan_january()
+        before = self.reader().current()
+        january = self.january().view().penalty
+        printed = self.does("ill", "Chen", "13.12.")
+        self.assertIn("Dilek, Sun 13 Dec: Night Nurse instead of Day Nurse\n", printed)
+        plan = self.reader().current()
+        kept = [cell for cell in before.cells if cell[:2] not in (("Chen", 13), ("Dilek", 13))]
+        dilek, ewa = (
+            plan.with_cells([*kept, *cells])
+            for cells in (
+                [Cell("Dilek", 13, "Night", "Nurse")],
+                [Cell("Dilek", 13, "Day", "Nurse"), Cell("Ewa", 13, "Night", "Nurse")],
+            )
+        )
+        self.assertEqual(set(plan.cells), set(dilek.cells))
+        # Ewa costs less in December, and more in both.
+        self.does("undo")
+        (first, then), (cheaper, more) = (
+            (one.view().penalty, self.reader().following(one)[1].view().penalty)
+            for one in (dilek, ewa)
+        )
+        self.assertLess(cheaper, first)
+        self.assertLess(first + then, cheaper + more)
+        self.assertIn(f"costs {then} points then instead of {january}\n", printed)
+
+    @unittest.skipUnless(HAS_CBC, "cbc is not installed")
+    def test_a_plan_says_that_it_counts_what_january_costs_after_it(self):
+        sentence = "The search also counts what the next period costs after this plan."
+        self.assertNotIn(sentence, self.verbs().done(Event("plan", ("2.12.",), 5)).lines())
+        self.plan_january()
+        told = io.StringIO()
+        verbs = Verbs(WardFolder(self.ward), Means(WardProgress(told), lambda line: None))
+        done = verbs.done(Event("plan", ("2.12.",), 5))
+        self.assertIn(sentence, done.lines())
+        self.assertIn(" points, those for the first days of the next period among", told.getvalue())
+        self.assertNotIn("cannot be avoided", told.getvalue())
+        self.assertLessEqual(done.bound.bound.points, sum(done.penalties.values()))
+        self.assertEqual(done.bound.penalty, sum(done.penalties.values()))
 
     def test_the_end_of_december(self):
         self.plan_january()

@@ -180,10 +180,10 @@ class ToldBounds(KeptTest):
     def test_points_for_changed_shifts_are_in_no_bound_that_is_told(self):
         told = io.StringIO()
         progress = WardProgress(told)
-        progress.counts_changes = True
+        progress.counts = "changed shifts"
         progress.bound_rose(435)
         progress.improved(530, "")
-        progress.counts_changes = False
+        progress.counts = ""
         progress.improved(440, "")
         self.assertEqual(
             [line.split("s  ")[1] for line in told.getvalue().splitlines()],

@@ -12,7 +12,8 @@ from ward import ENOUGH, ROOT
 from inrc2pb.judging.days_away import DaysAway
 from inrc2pb.programs.clock import Clock
 from inrc2pb.programs.processes import Processes
-from inrc2pb.rows.plan import Calls, Plan
+from inrc2pb.judging.runs import NextDays
+from inrc2pb.rows.plan import Extra, Plan
 from inrc2pb.rows.pricing import Crews, Pricing
 from inrc2pb.rows.row_search import RowSearch
 from inrc2pb.rows.skills import rows_of, staffed
@@ -110,7 +111,15 @@ class LongPlans(unittest.TestCase):
         older = dict(zip(plan.nurses, rows_of(plan, first_cells(plan))))
         nurse, row = next(iter(older.items()))
         older[nurse] = bytes([1 - row[0]]) + row[1:] if row[0] < 2 else b"\0" + row[1:]
-        self.check_costs(replace(plan, calls=Calls(older, 50)))
+        self.check_costs(replace(plan, extra=Extra(older, 50)))
+
+    def test_the_days_after_the_last_one_count_after_the_last_window(self):
+        plan = long_plan(6)
+        then = {
+            nurse: NextDays(plan.scenario.contract_of(nurse), bytes([number % 3, number % 3, 0]))
+            for number, nurse in enumerate(plan.nurses)
+        }
+        self.check_costs(replace(plan, extra=Extra(then=then)))
 
     def test_days_away_keep_their_places(self):
         plan = replace(
