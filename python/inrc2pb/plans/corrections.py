@@ -39,8 +39,13 @@ class Corrections(NamedTuple):
         are recorded as they were worked."""
         # What is known of other plans was of these weeks as they were planned.
         last = max([self.new.state.recorded, *(place.day + 1 for place in self.places)])
-        recorded = last if last > WEEK_DAYS * open_week else 0
-        state = replace(self.new.state, open_week=open_week, least=None, recorded=recorded)
+        state = replace(
+            self.new.state,
+            open_week=open_week,
+            least=None,
+            recorded=last if last > WEEK_DAYS * open_week else 0,
+            as_planned=tuple(week for week in self.new.state.as_planned if week not in self.weeks),
+        )
         new = plan_of(
             self.new.ward,
             state.keeping(lambda place: place.day >= state.first and place not in self.places),

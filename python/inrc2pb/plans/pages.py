@@ -211,6 +211,9 @@ def worked_pages(top: Path) -> dict[str, str]:
     matches = [match for match in map(_WORKED.fullmatch, names) if match]
     return {match[0]: f"Weeks that are over{_period_text(match[1])}" for match in matches}
 
+        notes=[f"As planned: {plan.days.weeks_text(weeks)}. How it was worked is not known."]
+        if weeks
+        else [],
 
 def _period_text(period: str | None) -> str:
     """The period of such a page in words, by the part of its name."""
@@ -234,7 +237,9 @@ def own_calendars(top: Path) -> set[str]:
 
 
 def _worked_content(plan: WardPlan) -> Content:
-    """What the page of the weeks that are over shows: how they were worked."""
+    """What the page of the weeks that are over shows: how they were worked, as far as that is
+    known."""
+    weeks = plan.state.as_planned
     return Content(
         plan.view(range(plan.state.open_week)),
         None,

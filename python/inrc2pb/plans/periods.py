@@ -52,16 +52,6 @@ class Period(NamedTuple):
         """Whether all its weeks are over."""
         return self.ended is not None or self.open_week >= self.days.weeks
 
-    @property
-    def known_weeks(self) -> int:
-        """The weeks of which is known how they were worked: not the last one, if an older version
-        has ended the period and kept no rosters."""
-        if self.ended is None:
-            return self.open_week
-        names = map(roster_name, range(self.days.weeks))
-        are_kept = all((self.ended / name).exists() for name in names)
-        return self.days.weeks if are_kept else self.days.weeks - 1
-
 
 def kept_plans(folders: Iterable[Path]) -> Iterator[KeptPlan]:
     """The folders that are not damaged, with their periods. The record of an older version has no
@@ -90,14 +80,17 @@ def periods_of(folders: Sequence[Path]) -> list[Period]:
 
 def state_of(period: Period) -> State:
     """What verbs have made of a period. One that an older version has ended was worked as the
-    folder says that ended it, or, if that has no rosters, as it was planned."""
+    folder says that ended it, or, if that has no rosters, its last week is known as it was
+    planned."""
     state = replace(read_state(period.folder), period=period.number)
     if period.ended is None:
         return state
-    rosters = [period.ended / roster_name(week) for week in range(period.days.weeks)]
-    is_known = period.known_weeks == period.days.weeks
-    cells = in_plan(read_solution(path).cells for path in rosters) if is_known else state.cells
-    return replace(state, open_week=period.days.weeks, cells=cells)
+    weeks = period.days.weeks
+    rosters = [period.ended / roster_name(week) for week in range(weeks)]
+    if all(path.exists() for path in rosters):
+        cells = in_plan(read_solution(path).cells for path in rosters)
+        return replace(state, open_week=weeks, cells=cells)
+    return replace(state, open_week=weeks, as_planned=(weeks - 1,))
 
 
 def end_of(period: Period, state: State | None = None) -> History:

@@ -49,9 +49,11 @@ _MOST_POINTS = 10**9
 _SWAP = "swap"
 _RECORDED = "days recorded"
 _GOES_ON = "with the one before"
-# All names of a plan, and those that an older version may not have.
+_AS_PLANNED = "weeks as planned"
+# All names of a plan, and those that an older version may not have, some of which are lists.
 _NAMES = "verb,time,monday,weeks,weeks over,published,days away,agreed days".split(",")
-_NEWER = (_SET, _TYPED, _PERIOD, _OPEN, _WAS, _HOLIDAYS, _LEAST, _SWAP, _RECORDED, _GOES_ON)
+_LISTS = (_SET, _OPEN, _WAS, _HOLIDAYS, _SWAP, _AS_PLANNED)
+_NEWER = (*_LISTS, _TYPED, _PERIOD, _LEAST, _RECORDED, _GOES_ON)
 # The most periods of a folder.
 _MOST_PERIODS = 9999
 
@@ -85,6 +87,7 @@ def record_text(record: Record) -> str:
         **({_SWAP: [list(place) for place in record.swap.places]} if record.swap else {}),
         **({_RECORDED: record.recorded} if record.recorded else {}),
         **({_GOES_ON: True} if record.goes_on else {}),
+        **({_AS_PLANNED: [*record.as_planned]} if record.as_planned else {}),
     }
     lines = [
         f"  {json.dumps(name)}: {json.dumps(value, ensure_ascii=False)}"
@@ -153,7 +156,8 @@ def _record_of(values: Any) -> Record:
     names = (*_NAMES, *_NEWER)
     if not isinstance(values, dict) or {*_NEWER, *values} != set(names):
         raise _Changed(f"it has not the names {', '.join(names)}")
-    values = {_SET: [], _TYPED: "", _OPEN: [], _WAS: [], _HOLIDAYS: [], _SWAP: [], **values}
+    missing = {**{name: [] for name in _LISTS}, _TYPED: "", _RECORDED: 0, _GOES_ON: False}
+    values = {**missing, **values}
     monday = values["monday"]
     weeks = _taken(values, "weeks", _is_number_to(MAX_WEEKS))
     days = PlanDays(None if monday is None else _time(values, "monday", "%Y-%m-%d").date(), weeks)
@@ -181,16 +185,11 @@ def _record_of(values: Any) -> Record:
         ),
         was=tuple(Renamed(*row) for row in _rows(values, _WAS, [_is_text] * 3)),
         least=_taken(values, _LEAST, _is_number_to(_MOST_POINTS)) if _LEAST in values else None,
-        holidays=tuple(
-            _taken(
-                values,
-                _HOLIDAYS,
-                lambda days: isinstance(days, list) and all(map(is_day, days)),
-            )
-        ),
+        holidays=tuple(_numbers(values, _HOLIDAYS, is_day)),
+        as_planned=tuple(_numbers(values, _AS_PLANNED, _is_number_to(weeks))),
         swap=_swap_of(_rows(values, _SWAP, [_is_text, is_day]), values["verb"], days),
-        recorded=_taken({_RECORDED: 0, **values}, _RECORDED, _is_number_to(days.total)),
-        goes_on=_taken({_GOES_ON: False, **values}, _GOES_ON, _is_truth),
+        recorded=_taken(values, _RECORDED, _is_number_to(days.total)),
+        goes_on=_taken(values, _GOES_ON, _is_truth),
     )
 
 
@@ -225,6 +224,11 @@ def _taken(values: dict[str, Any], name: str, fits: Callable[[object], bool]) ->
     if not fits(values[name]):
         raise _Changed(f"'{name}' has a value that no plan has")
     return values[name]
+
+
+def _numbers(values: dict[str, Any], name: str, fits: Callable[[object], bool]) -> list[int]:
+    """The numbers of this name, if all of them fit."""
+    return list(_taken(values, name, lambda rows: isinstance(rows, list) and all(map(fits, rows))))
 
 
 def _time(values: dict[str, Any], name: str, form: str) -> datetime.datetime:
@@ -279,6 +283,7 @@ def read_state(folder: Path) -> State:
         was=record.was,
         least=record.least,
         recorded=record.recorded,
+        as_planned=record.as_planned,
     )
 
 

@@ -87,6 +87,9 @@ class Record(NamedTuple):
     recorded: int = 0
     # Whether its verb has made the plan before it, too, that of the period before.
     goes_on: bool = False
+    # The weeks that are over of which only is known how they were planned, since an older version
+    # has ended them.
+    as_planned: tuple[int, ...] = ()
 
     @property
     def begin(self) -> int:
@@ -117,6 +120,7 @@ class State:
     period: int = 0
     opened: tuple[OpenShift, ...] = ()
     was: tuple[Renamed, ...] = ()
+    as_planned: tuple[int, ...] = ()
     # Whether the period before it is not over, so it begins as that one is planned.
     is_as_planned: bool = False
     # What no plan costs less than, as far as the last search of all shifts has said so.
@@ -180,6 +184,7 @@ class State:
             was=self.was,
             swap=swap,
             recorded=self.recorded,
+            as_planned=self.as_planned,
         )
 
     def renamed(self, names: Names) -> "State":

@@ -62,7 +62,11 @@ def _rows(
     names = now.names_since(state.was)
     order = {nurse: number for number, nurse in enumerate(ward.nurses)}
     places = sorted(
-        (place for place in {*works, *before, *away} if place.day < WEEK_DAYS * period.known_weeks),
+        (
+            place
+            for place in {*works, *before, *away}
+            if place.day < state.first and place.day // WEEK_DAYS not in state.as_planned
+        ),
         key=lambda place: (place.day, order.get(place.nurse, len(order)), place.nurse),
     )
     for place in places:
