@@ -15,7 +15,7 @@ from ..week.faults import fault_line
 from ..week.own_files import is_own_file, own_bytes, without_link
 from ..week.records import WEEK_DAYS, NurseDay
 from ..week.words import readable
-from ..week.writing import write_own_bytes, write_own_text
+from ..week.writing import write_own_text
 from .facts import promised_days, sums
 from .left_open import all_open_lines
 from .sentences import beside_lines, exceeded_lines, working_lines
@@ -24,9 +24,6 @@ from .ward import WardPlan
 ROSTER = "roster.html"
 WALL = "wall.html"
 CALENDARS = "calendars"
-TABLES = "tables"
-WORKED = "worked.csv"
-SHEET = "roster.ods"
 # The name of the plan that a page shows, in its head.
 _PLAN = re.compile('<meta name="plan" content="([^"]*)"/>')
 _FROM = re.compile("from-[0-9]{4}-[0-9]{2}-[0-9]{2}")
@@ -164,36 +161,6 @@ def write_worked(top: Path, plan: WardPlan) -> Path:
     return path
 
 
-def write_table(top: Path, text: str) -> tuple[Path, ...]:
-    """Writes the table of what was worked; without rows there is none. Returns its path, if it has
-    another text now."""
-    path = top / TABLES / WORKED
-    without_link(path.parent)
-    if not text:
-        taken_away(path.parent, [WORKED])
-        return ()
-    path.parent.mkdir(exist_ok=True)
-    if is_own_file(path) and path.read_text(encoding="utf-8", errors="replace") == text:
-        return ()
-    write_own_text(path, text)
-    return (path,)
-
-
-def write_roster_sheet(top: Path, data: bytes) -> tuple[Path, ...]:
-    """Writes the spreadsheet of all plans; without plans there is none. Returns its path, if it has
-    other bytes now."""
-    path = top / TABLES / SHEET
-    without_link(path.parent)
-    if not data:
-        taken_away(path.parent, [SHEET])
-        return ()
-    path.parent.mkdir(exist_ok=True)
-    if is_own_file(path) and path.read_bytes() == data:
-        return ()
-    write_own_bytes(path, data)
-    return (path,)
-
-
 def worked_name(days: PlanDays, period: int) -> str:
     """The name of the page of the weeks that are over: it has the first Monday of the period, or
     its number."""
@@ -211,9 +178,6 @@ def worked_pages(top: Path) -> dict[str, str]:
     matches = [match for match in map(_WORKED.fullmatch, names) if match]
     return {match[0]: f"Weeks that are over{_period_text(match[1])}" for match in matches}
 
-        notes=[f"As planned: {plan.days.weeks_text(weeks)}. How it was worked is not known."]
-        if weeks
-        else [],
 
 def _period_text(period: str | None) -> str:
     """The period of such a page in words, by the part of its name."""
@@ -247,6 +211,9 @@ def _worked_content(plan: WardPlan) -> Content:
         plan.ward.times,
         as_of=datetime.datetime.now(),
         opened=all_open_lines(plan, range(plan.state.open_week)),
+        notes=[f"As planned: {plan.days.weeks_text(weeks)}. How it was worked is not known."]
+        if weeks
+        else [],
     )
 
 

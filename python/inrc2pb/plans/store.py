@@ -11,24 +11,25 @@ from ..programs import clock
 from ..programs.program import BROKEN_RULE, WeekFiles, penalty_of
 from ..programs.progress import Progress, is_wide
 from ..shown.totals import Sums
+from ..sheets.ward import Ward
 from ..week.dates import PlanDays, first_date
 from ..week.faults import FileFault, FileFaults, Misuse, ProgramFault
 from ..week.files import history_text, write_solution
 from ..week.own_files import is_own_file
 from ..week.records import Solution
 from ..week.writing import write_text
-from . import pages
+from . import pages, tables
 from .broken_days import without_broken
 from .kept_shifts import published_days, sums_of_period
 from .pages import Pages
 from .periods import past_plan
 from .plan_files import known_record, roster_name, state_texts
 from .reading import PlanReader, running
-from .roster_sheet import roster_sheet
+from .roster_sheet import roster_sheets
 from .state import Record, Swap
 from .ward import WardPlan
 from .ward_folder import WardFolder
-from .worked_table import worked_text
+from .worked_table import worked_tables
 
 
 class Means(NamedTuple):
@@ -94,18 +95,17 @@ class PlanStore(PlanReader):
         links = {pages.ROSTER: "The roster as it was last written"} if is_left else {}
         return {**links, **pages.worked_pages(self.folder.top)}
 
-    def pages(self, plan: WardPlan, undone: Record | None = None) -> Pages:
-        """Makes the pages of the folder those of a plan, and of the plans of other periods, and the
-        table of what was worked that of all periods. They mark what differs from the plan that was
-        hung up before. The plan with the record `undone` was taken back."""
+    def pages(
+        self, plan: WardPlan, undone: Record | None = None, corrected: WardPlan | None = None
+    ) -> Pages:
+        """Makes the pages of the folder those of a plan, and of the plans of other periods, with
+        tables. They mark what differs from the plan that was hung up before. The plan with the
+        record `undone` was taken back, and an older period has this corrected plan."""
         try:
             top = self.folder.top
             plans = [plan, *self._others(plan)]
-            written = [
-                *self._page_after(undone),
-                *pages.write_roster_sheet(top, roster_sheet([*plans, *self._past()])),
-                *self._worked_table(plan),
-            ]
+            others = [one.days for one in (undone, corrected) if one]
+            written = [*self._page_after(undone), *self._tables(plan.ward, plans, others)]
             gone: list[Path] = []
             for one in plans:
                 is_first = one.state.period <= running(self.periods())
@@ -132,10 +132,22 @@ class PlanStore(PlanReader):
                 with contextlib.suppress(FileFault, FileFaults, Misuse):
                     yield self.plan_of(period.number)
 
-    def _past(self) -> Iterator[WardPlan]:
-        """The plans of the periods that are over, as far as they can be read."""
+    def _tables(
+        self, ward: Ward, plans: Sequence[WardPlan], others: Sequence[PlanDays]
+    ) -> tuple[Path, ...]:
+        """Writes the tables of the years of these plans, and of other days that have changed."""
+        top = self.folder.top
+        changed = [*(plan.days for plan in plans), *others]
+        names = tables.names_to_write(top, changed, [one.days for one in self.periods()])
+        worked = worked_tables(self.folder.all_plans(), ward, names)
+        found = {**worked, **roster_sheets([*plans, *self._past(names)])}
+        return tables.write_tables(top, names, found)
+
+    def _past(self, names: set[str]) -> Iterator[WardPlan]:
+        """The plans of the periods that are over in the tables with these names, as far as they can
+        be read."""
         for period in self.periods():
-            if period.is_over:
+            if period.is_over and tables.sheet_name(period.days) in names:
                 with contextlib.suppress(FileFault, FileFaults, Misuse):
                     yield past_plan(period, self.times())
 
@@ -152,18 +164,13 @@ class PlanStore(PlanReader):
     def pages_of_past(self, past: WardPlan, now: WardPlan | None) -> Pages:
         """The same for the plan that holds, if there is one, after one of weeks that are over has
         changed."""
-        written = self.pages(now) if now else Pages()
+        written = self.pages(now, corrected=past) if now else Pages()
         try:
             older = () if past.weeks else (pages.write_worked(self.folder.top, past),)
-            table = () if now else self._worked_table(past)
-            return written._replace(written=(*older, *written.written, *table))
+            tables_of = () if now else self._tables(past.ward, [], [past.days])
+            return written._replace(written=(*older, *written.written, *tables_of))
         except OSError as fault:
             return Pages(fault=fault)
-
-    def _worked_table(self, plan: WardPlan) -> tuple[Path, ...]:
-        """Writes the table of what was worked, if its verb can have changed that."""
-        text = worked_text(self.folder.all_plans(), plan.ward)
-        return pages.write_table(self.folder.top, text)
 
     def pages_undone(self, undone: Record | None) -> Pages:
         """Takes the pages of a plan away that was undone, which has this record, if the plan that

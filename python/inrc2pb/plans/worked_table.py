@@ -1,10 +1,11 @@
-"""The table of what was worked, which payroll can read: a row for each nurse's day of a week that
-is over on which she worked, was to work, or was away. It is a copy, which no verb reads."""
+"""The tables of what was worked, which payroll can read: a row for each nurse's day of a week that
+is over on which she worked, was to work, or was away."""
 
 import csv
+import datetime
 import io
 from pathlib import Path
-from typing import Iterator, Sequence
+from typing import Iterable, Iterator, Sequence
 
 from ..sheets.ods_file import no_formula
 from ..sheets.ward import Ward
@@ -16,21 +17,26 @@ from ..week.words import readable
 from .kept_shifts import known_cells
 from .periods import Period, kept_plans, periods_of, state_of
 from .plan_files import roster_name
+from .tables import table_name, table_names
 
 HEADS = ("nurse", "date", "shift type", "skill", "planned")
+_Row = tuple[str, ...]
 
 
-def worked_text(folders: Sequence[Path], ward: Ward) -> str:
-    """The table of all periods of these folders that have dates, with the names that nurses have
-    now; nothing if no week is over. `planned` is the shift of the last plan before the week was
-    over."""
+def worked_tables(folders: Sequence[Path], ward: Ward, names: set[str]) -> dict[str, bytes]:
+    """The tables with these names, of all periods of these folders that have dates, with the names
+    that nurses have now, as far as weeks are over. `planned` is the shift of the last plan before
+    the week was over."""
     planned = _planned_files(folders)
-    rows: list[tuple[str, ...]] = []
+    tables: dict[str, list[_Row]] = {}
     for period in periods_of(folders):
-        if period.days.monday is not None:
-            rows += _rows(period, planned, ward)
-    if not rows:
-        return ""
+        if names & table_names(period.days):
+            for date, row in _rows(period, planned, ward):
+                tables.setdefault(table_name(date.year), []).append(row)
+    return {name: _text(tables[name]).encode() for name in names if name in tables}
+
+
+def _text(rows: Iterable[_Row]) -> str:
     text = io.StringIO()
     csv.writer(text, lineterminator="\n").writerows([HEADS, *rows])
     return text.getvalue()
@@ -48,8 +54,8 @@ def _planned_files(folders: Sequence[Path]) -> dict[tuple[int, int], Path]:
 
 def _rows(
     period: Period, planned: dict[tuple[int, int], Path], now: Ward
-) -> Iterator[tuple[str, ...]]:
-    """The rows of a period, but for damaged folders."""
+) -> Iterator[tuple[datetime.date, _Row]]:
+    """The rows of a period with their dates, but for damaged folders."""
     try:
         state = state_of(period)
         ward = read_scenario(period.folder / "ward.txt")
@@ -80,7 +86,8 @@ def _rows(
             was.shift if was else "",
         ]
         nurse, shift, skill, plan = (no_formula(readable(text)) for text in texts)
-        yield nurse, str(period.days.date(place.day)), shift, skill, plan
+        date = period.days.date(place.day)
+        yield date, (nurse, str(date), shift, skill, plan)
 
 
 def _cells(paths: Sequence[Path | None]) -> dict[NurseDay, Cell]:

@@ -265,7 +265,7 @@ class Undone(FolderPages):
     def test_undo_of_the_end_of_a_week_takes_its_page_back(self):
         page = self.ward / "worked-2026-11-30.html"
         said = self.lines("over")
-        self.assertIn(f"written: {self.ward}/roster.html, {self.ward}/tables/roster.ods", said)
+        self.assertIn(f"written: {self.ward}/roster.html, {self.ward}/tables/roster-2026.ods", said)
         self.assertIn(f"taken away: {page}", said)
 
     def test_undo_of_the_second_week_leaves_the_first_one_on_its_page(self):

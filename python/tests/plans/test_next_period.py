@@ -304,7 +304,7 @@ class NewNames(PeriodTest):
             self.assertEqual(set(read_state(self.last()).cells), wanted)
             self.assertEqual(set(self.verbs().current().cells), wanted)
         self.does("over")
-        with open(self.ward / "tables" / "worked.csv", encoding="utf-8") as file:
+        with open(self.ward / "tables" / "worked-2026.csv", encoding="utf-8") as file:
             nights = {line.split(",")[0] for line in file if ",2026-12-04,Night" in line}
         self.assertEqual(nights, {"Ewa"})
         # Undo brings both pasts back.

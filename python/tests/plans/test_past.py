@@ -3,6 +3,8 @@ what was worked."""
 
 import csv
 import datetime
+import json
+import re
 import shutil
 import unittest
 from pathlib import Path
@@ -21,7 +23,7 @@ from inrc2pb.plans.verb import Event
 from inrc2pb.sheets.open_shifts import OpenShift
 from inrc2pb.week.records import WEEK_DAYS
 
-OLDER = Path(__file__).resolve().parents[1] / "data" / "older_version" / "plans"
+OLDER = Path(__file__).resolve().parents[1] / "data" / "older_version"
 NEXT_MONDAY = MONDAY + datetime.timedelta(days=2 * WEEK_DAYS)
 
 
@@ -43,7 +45,7 @@ class PastTest(PeriodTest):
 class Corrected(PastTest):
     def table(self):
         """The rows of the table of what was worked, without the heads."""
-        with open(self.ward / "tables" / "worked.csv", newline="", encoding="utf-8") as file:
+        with open(self.ward / "tables" / "worked-2026.csv", newline="", encoding="utf-8") as file:
             return [tuple(row) for row in csv.reader(file)][1:]
 
     def begin_next(self):
@@ -135,7 +137,7 @@ class Corrected(PastTest):
 
     def test_the_table_of_what_was_worked(self):
         self.does("page")
-        self.assertFalse((self.ward / "tables" / "worked.csv").exists())
+        self.assertFalse((self.ward / "tables" / "worked-2026.csv").exists())
         self.does(
             "over", "Finn", "Fri", "off,", "Grace", "Wed", "ill,", "Amara", "Sun", "Day/Nurse"
         )
@@ -155,7 +157,7 @@ class Corrected(PastTest):
         rows = self.table()
         self.assertEqual((set(rows), len(rows)), (wanted, len(wanted)))
         self.does("undo")
-        self.assertFalse((self.ward / "tables" / "worked.csv").exists())
+        self.assertFalse((self.ward / "tables" / "worked-2026.csv").exists())
 
     def test_the_table_has_all_periods_and_is_never_read(self):
         self.begin_next()
@@ -163,7 +165,7 @@ class Corrected(PastTest):
         rows = self.table()
         self.assertEqual(len(rows), 3 * len([cell for cell in TWO_WEEKS if cell.day < WEEK_DAYS]))
         self.assertEqual([row[1] for row in rows], sorted(row[1] for row in rows))
-        (self.ward / "tables" / "worked.csv").write_text("nurse,contract\n=1+1,\n")
+        (self.ward / "tables" / "worked-2026.csv").write_text("nurse,contract\n=1+1,\n")
         self.does("over")
         self.assertGreater(len(self.table()), len(rows))
 
@@ -313,13 +315,13 @@ class BegunDays(PeriodTest):
         self.assertIn("week 1 (calendar week 49) is over: the plan goes on from Mon 7 Dec", printed)
         state = read_state(self.last())
         self.assertEqual((state.open_week, state.begin), (1, 8))
-        with open(self.ward / "tables" / "worked.csv", encoding="utf-8") as file:
+        with open(self.ward / "tables" / "worked-2026.csv", encoding="utf-8") as file:
             rows = [line.strip() for line in file]
         for row in ("Finn,2026-12-01,,,Late", "Amara,2026-12-06,,,Day"):
             self.assertIn(row, rows)
         with today_is(2026, 12, 14):
             self.does("over")
-        with open(self.ward / "tables" / "worked.csv", encoding="utf-8") as file:
+        with open(self.ward / "tables" / "worked-2026.csv", encoding="utf-8") as file:
             self.assertIn("Grace,2026-12-07,,,Day\n", list(file))
 
     def test_the_page_asks_and_says_that_no_week_ends(self):
@@ -331,13 +333,16 @@ class BegunDays(PeriodTest):
 
 
 class OlderVersion(PastTest):
-    """A folder whose period an older version has ended: Grace was off on the last Thursday, and ill on
-    the last Friday, and only the history says so."""
+    """A folder that an older version has made, and whose period it has ended: Grace was off on the last
+    Thursday, and ill on the last Friday, and only the history says so."""
 
     def setUp(self):
         super().setUp()
         shutil.rmtree(self.ward / "plans")
-        shutil.copytree(OLDER, self.ward / "plans")
+        shutil.copytree(OLDER / "plans", self.ward / "plans")
+        self.newer = self.ward / "plans" / "undone" / "0007-2026-12-01-1209-plan"
+        shutil.copytree(self.newer, self.folder / "newer")
+        shutil.rmtree(self.newer.parent)
         self.write_next(NEXT_MONDAY)
 
     def kept(self):
@@ -351,6 +356,7 @@ class OlderVersion(PastTest):
         before = self.kept()
         printed = run("plan", self.ward, "check")[1]
         self.assertIn("Night on Sunday: Chen for 3 days", printed)
+        self.assertNotIn("older version", printed)
         self.plan_next()
         self.does("page")
         # The last week is as it was planned, as no folder has it as it was worked.
@@ -371,27 +377,64 @@ class OlderVersion(PastTest):
     def test_its_last_week_is_as_planned_and_never_said_to_be_worked(self):
         self.plan_next()
         self.does("page")
-        with open(self.ward / "tables" / "worked.csv", encoding="utf-8") as file:
+        with open(self.ward / "tables" / "worked-2026.csv", encoding="utf-8") as file:
             days = {line.split(",")[1] for line in file}
         last = str(MONDAY + datetime.timedelta(days=6))
         self.assertEqual(max(days - {"date"}), last)
 
-    def test_a_plan_that_the_older_version_has_taken_back(self):
+    def as_planned(self):
+        """The weeks of which the page of the weeks that are over says that they are as planned."""
+        page = (self.ward / "worked-2026-11-30.html").read_text()
+        self.assertIn("30 Nov to 13 Dec 2026", page)
+        return re.findall("As planned: (week [^.]*). How it was worked is not known.", page)
+
+    def last_worked(self):
+        """The last day in the table of what was worked."""
+        lines = (self.ward / "tables" / "worked-2026.csv").read_text().splitlines()
+        return max(line.split(",")[1] for line in lines[1:])
+
+    def test_its_last_week_stays_as_planned_until_it_is_corrected(self):
+        last = ["week 2 (calendar week 50)"]
         self.plan_next()
-        name = self.last().name
-        (self.ward / "plans" / "undone").mkdir(exist_ok=True)
-        self.last().rename(self.ward / "plans" / "undone" / name)
+        self.does("over", "Amara", "30.11.", "off")
+        self.assertEqual(self.as_planned(), last)
+        self.assertEqual(read_state(self.last()).as_planned, (1,))
+        self.assertEqual(self.last_worked(), "2026-12-06")
+        self.does("over", "Amara", "7.12.", "off")
+        self.assertEqual(self.as_planned(), [])
+        self.assertEqual(self.last_worked(), "2026-12-13")
+        for _ in range(2):
+            self.does("undo")
+            self.assertEqual(self.as_planned(), last)
+            self.assertEqual(self.last_worked(), "2026-12-06")
+
+    def test_a_plan_that_the_older_version_has_taken_back(self):
+        # It has refused a plan of a later one, whose cure was its undo.
+        said = (OLDER / "said.txt").read_text()
+        self.assertIn(f"plans/{self.newer.name}/plan.json: this file was changed: it has", said)
+        self.assertIn("or type undo to go back to the plan before it", said)
+        self.assertIn(f"undone: {self.newer.name}\n", said)
+        shutil.copytree(self.folder / "newer", self.newer)
         printed = run("plan", self.ward, "check")[1]
-        self.assertIn(f"warning: plans/undone/{name} was taken back, perhaps by an older", printed)
-        (self.ward / "plans" / "undone" / name).rename(self.ward / "plans" / name)
+        self.assertIn(
+            f"warning: plans/undone/{self.newer.name} was taken back, perhaps by an older", printed
+        )
+        self.assertIn(": move it into plans to take that back\n", printed)
+        self.newer.rename(self.ward / "plans" / self.newer.name)
         self.assertNotIn("older version", run("plan", self.ward, "check")[1])
+        self.assertEqual(self.verbs().current().state.period, 1)
+        self.assertTrue(self.verbs().current().is_planned)
 
     def test_a_plan_of_now_is_no_plan_of_it(self):
-        # The older version refuses a record with a name that it does not know.
+        # It refuses a record that has not the names that it knows, and says these.
+        (names,) = set(
+            re.findall("it has not the names ([^:]*):", (OLDER / "said.txt").read_text())
+        )
         self.plan_next()
-        self.assertIn('"period": 1', (self.last() / "plan.json").read_text())
-        for path in OLDER.glob("*/plan.json"):
-            self.assertNotIn('"period"', path.read_text())
+        record = json.loads((self.last() / "plan.json").read_text())
+        self.assertEqual(set(record) - set(names.split(", ")), {"period"})
+        for path in OLDER.glob("plans/0*/plan.json"):
+            self.assertEqual(set(json.loads(path.read_text())), set(names.split(", ")))
 
 
 if __name__ == "__main__":

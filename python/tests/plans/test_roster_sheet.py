@@ -14,7 +14,7 @@ from test_next_period import PeriodTest
 from test_plans import MONDAY, TWO_WEEKS
 
 from inrc2pb.plans import planning
-from inrc2pb.plans.roster_sheet import roster_sheet
+from inrc2pb.plans.roster_sheet import roster_sheets
 from inrc2pb.plans.searching import Found
 from inrc2pb.plans.store import Means
 from inrc2pb.plans.table import VERBS, Verbs
@@ -45,7 +45,7 @@ class RosterSheets(PeriodTest):
     def content(self):
         """The styles of the spreadsheet, and its sheets with the texts and styles of their
         cells."""
-        with zipfile.ZipFile(self.ward / "tables" / "roster.ods") as archive:
+        with zipfile.ZipFile(self.ward / "tables" / "roster-2026.ods") as archive:
             content = ElementTree.fromstring(archive.read("content.xml"))
         sheets = {
             table.get(TABLE + "name"): [
@@ -63,7 +63,7 @@ class RosterSheets(PeriodTest):
     def test_a_sheet_for_each_period_with_shifts_sums_and_colors(self):
         self.rows["plan"][1][1:3] = ["leave", "leave"]
         self.write()
-        self.assertIn("my wärd/tables/roster.ods", self.does("page"))
+        self.assertIn("my wärd/tables/roster-2026.ods", self.does("page"))
         colors, sheets = self.content()
         self.assertEqual(colors, list(COLORS))
         (rows,) = sheets.values()
@@ -84,7 +84,7 @@ class RosterSheets(PeriodTest):
         amara = rows[1]
         self.assertIn(amara[1], [("Day Charge", "c0"), ("away", None)])
         # A verb that changes nothing of it writes no new one, and the next period has a sheet.
-        self.assertNotIn("roster.ods", self.does("page"))
+        self.assertNotIn("roster-2026.ods", self.does("page"))
         self.end_period()
         self.write_next(MONDAY + datetime.timedelta(days=14))
         self.plan_next(TWO_WEEKS)
@@ -97,7 +97,7 @@ class RosterSheets(PeriodTest):
         self.rows["plan"][7][10] = "ill"
         self.write()
         self.does("page")
-        with zipfile.ZipFile(self.ward / "tables" / "roster.ods") as archive:
+        with zipfile.ZipFile(self.ward / "tables" / "roster-2026.ods") as archive:
             text = archive.read("content.xml").decode()
         self.assertNotIn(">ill<", text)
 
@@ -114,7 +114,7 @@ class RosterSheets(PeriodTest):
             self.rows[sheet][7][0] = "@Grace"
         self.write()
         plan = first_plan(read_sheet(self.ward)).with_cells(TWO_WEEKS[:5])
-        with zipfile.ZipFile(io.BytesIO(roster_sheet([plan]))) as archive:
+        with zipfile.ZipFile(io.BytesIO(*roster_sheets([plan]).values())) as archive:
             self.assertIn("<text:p>'@Grace</text:p>", archive.read("content.xml").decode())
 
 
@@ -143,7 +143,7 @@ class Copies(KeptTest):
         shutil.copytree(self.folder / "stored", self.ward / "plans")
         tables = self.ward / "tables"
         tables.mkdir(exist_ok=True)
-        for copy in ("roster.ods", "ward.xlsx", "plan.csv", "nurses.csv"):
+        for copy in ("roster-2026.ods", "ward.xlsx", "plan.csv", "nurses.csv"):
             (tables / copy).write_bytes(b"no spreadsheet")
         folder = WardFolder(self.ward)
         self.assertNotIn(tables, [path.parent for path in folder.files()])

@@ -22,6 +22,13 @@ TIME = ("--time", str(ENOUGH))
 WEEK = 7 * DAY
 
 
+def worked_text(ward):
+    """The tables of what was worked, those of the older years first, with the heads of the first
+    one."""
+    first, *others = (path.read_text() for path in sorted(ward.glob("tables/worked-*.csv")))
+    return first + "".join(text.partition("\n")[2] for text in others)
+
+
 def _weeks(monday, first):
     """The weeks of a period that are not over."""
     return [week for week in (monday, monday + WEEK) if week >= first]
@@ -127,7 +134,7 @@ class TwoPeriods(ServedPage):
 
     def worked(self):
         """The table of what was worked has what was typed."""
-        table = rows_of((self.ward / "tables" / "worked.csv").read_text())
+        table = rows_of(worked_text(self.ward))
         self.assertEqual(set(table), self.known.worked_rows(self.known.open_from))
         self.assertEqual(len(table), len(set(table)))
 
@@ -289,10 +296,7 @@ class TwoPeriods(ServedPage):
         self.worked()
         with today_is(END.year, END.month, END.day):
             self.assertEqual(run("plan", backup, "over")[0], 0)
-        self.assertEqual(
-            (backup / "tables" / "worked.csv").read_text(),
-            (self.ward / "tables" / "worked.csv").read_text(),
-        )
+        self.assertEqual(worked_text(backup), worked_text(self.ward))
 
 
 if __name__ == "__main__":

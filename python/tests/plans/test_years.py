@@ -3,11 +3,13 @@
 import datetime
 import unittest
 from dataclasses import replace
+from unittest import mock
 
 from test_calendar import CalendarTest
 from test_plans import MONDAY
 from ward import HelperTest
 
+from inrc2pb.plans import worked_table
 from inrc2pb.plans.plan_files import NAME, read_record, record_text
 from inrc2pb.plans.state import Record
 from inrc2pb.plans.store import plan_texts
@@ -36,6 +38,8 @@ class TenYears(CalendarTest):
             folder.mkdir()
             for name, text in plan_texts(old, state.record("over 1", NOW)).items():
                 (folder / name).write_text(text)
+        (self.ward / "tables").mkdir()
+        (self.ward / "tables" / "worked.csv").write_text("the table of an older version\n")
         last = replace(plan, state=replace(plan.state, period=number))
         WardFolder(self.ward).add("plan", plan_texts(last, last.state.record("plan", NOW)), NOW)
         looks = self.looks()
@@ -47,8 +51,30 @@ class TenYears(CalendarTest):
         self.assertEqual(
             self.sums("roster.html")["Grace"][5:7], [str(10 * periods), str(85 * periods)]
         )
-        with open(self.ward / "tables" / "worked.csv", encoding="utf-8") as file:
-            self.assertEqual(sum(line.startswith("Grace,") for line in file), 10 * number)
+        lines = [line for path in self.tables("worked") for line in path.read_text().split("\n")]
+        self.assertEqual(sum(line.startswith("Grace,") for line in lines), 10 * number)
+        self.assertFalse((self.ward / "tables" / "worked.csv").exists())
+        self.does_not_write_old_tables()
+
+    def tables(self, name):
+        """The tables of all years."""
+        tables = sorted((self.ward / "tables").glob(f"{name}-20*"))
+        self.assertEqual(len(tables), YEARS + 1)
+        return tables
+
+    def does_not_write_old_tables(self):
+        """Only those of this year are written anew, and those that are not there; to see which,
+        there is another text in all."""
+        other = b"another text\n"
+        worked, rosters = self.tables("worked"), self.tables("roster")
+        for path in (*worked, *rosters):
+            path.write_bytes(other)
+        rosters[3].unlink()
+        with mock.patch.object(worked_table, "_rows", wraps=worked_table._rows) as periods:
+            self.does("page")
+        self.assertLessEqual(periods.call_count, 2 * 26 + 1)
+        new = {path for path in (*worked, *rosters) if path.read_bytes() != other}
+        self.assertEqual(new, {worked[-1], rosters[-1], rosters[3]})
 
     def looks(self):
         """The times and sizes of all files of plans."""
