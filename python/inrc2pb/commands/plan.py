@@ -89,7 +89,9 @@ def _options() -> Parser:
         ),
     )
     options.add_flag(
-        "--do", "with swap, set or page: write it; with others: also a plan above a maximum with !"
+        "--do",
+        "with swap, set or page: write it; with others: also a plan above a maximum with !, or one"
+        " for which the next period gives shifts up",
     )
     options.add_flag(
         "--open", "with set, plan and days away: leave those shifts open that nobody else can take"

@@ -31,8 +31,9 @@ class Away(Outcome):
     word: str
     # The reason that she had who is back.
     was: str = ""
-    # How it goes on in the plan of the next period, if it does.
+    # How it goes on in the plan of the next period, if it does, and its days after this period.
     goes_on: Callable[[WardPlan], "Away | None"] = _ends
+    left: int = 0
 
     @property
     def there(self) -> WardPlan:

@@ -60,7 +60,9 @@ def searched_for(store: PlanStore, event: Event, absence: Away, *named: int) -> 
         return replace(absence, status=Status.NOT_KEPT)
     say(store, absence.begin())
     verb = " ".join([absence.word, absence.nurse, *map(absence.old.days.head, named)])
-    after = store.following(absence.new)[0]
+    following = store.following(absence.new)[0]
+    # A plan in which it goes on may have a fault.
+    after = store.plan_of(absence.new.state.period + 1) if absence.left else following
     parts = 2 if after and absence.goes_on(after) else 1
     seconds = (event.seconds or CHANGE_SECONDS) / parts
     asked = Asked(absence.days[0], True, seconds, do=event.do)

@@ -47,6 +47,7 @@ def _away(old: WardPlan, nurse: str, days: range, word: str) -> Away:
         goes_on=lambda plan: (
             _away(plan, nurse, left, word) if left and nurse in plan.scenario.nurses else None
         ),
+        left=len(left),
     )
 
 
