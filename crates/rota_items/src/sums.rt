@@ -2,7 +2,6 @@
 ghost use Rattle.std.specs.Prelude.{◌≡◌, ◌+◌, ◌*◌, ◌<◌, ◌≤◌};
 ghost use Rattle.std.specs.List.{range_with_len};
 ghost use Rattle.rota_core.specs.InstanceTables.{problem_of};
-ghost use Rattle.rota_core.specs.Roster.{cell};
 ghost use Rattle.rota_items.specs.CellEvents.{coefficient_of, sum_events};
 ghost use Rattle.rota_items.specs.Rows.{demand_cells, nurse_cells, on_cells, skill_cells, times, work_cells};
 ghost use Rattle.rota_items.specs.Events.{term_events};

@@ -1,5 +1,5 @@
 //! The number of windows and patterns that charge the runs of a property in a week.
-ghost use Rattle.std.specs.Prelude.{◌≡◌, ◌+◌, length};
+ghost use Rattle.std.specs.Prelude.{◌≡◌, length};
 ghost use Rattle.rota_core.specs.Lists.{concat_below};
 ghost use Rattle.rota_items.specs.RunItems.{closed_patterns_on, edge_patterns_on, patterns, windows};
 

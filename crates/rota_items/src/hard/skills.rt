@@ -1,5 +1,4 @@
 //! H4: no cell that needs a skill that the nurse does not have.
-ghost use Rattle.std.specs.Prelude.{◌<◌};
 ghost use Rattle.rota_core.specs.InstanceTables.{problem_of};
 ghost use Rattle.rota_core.specs.Lists.{concat_below};
 ghost use Rattle.rota_items.specs.HardRows.{h4_rows, h4_rows_at};

@@ -1,6 +1,5 @@
 //! S5, complete weekends: a nurse works on only one day of the weekend although her contract asks for
 //! complete weekends.
-ghost use Rattle.std.specs.Prelude.{◌<◌};
 ghost use Rattle.rota_core.specs.InstanceTables.{problem_of};
 ghost use Rattle.rota_items.specs.Takes.{TakesItems};
 ghost use Rattle.rota_items.specs.rules.CompleteWeekends.{complete_weekends_of};

@@ -1,5 +1,5 @@
 //! S2, consecutive assignments: runs on a shift type and runs of working days that are too long or too short.
-ghost use Rattle.std.specs.Prelude.{◌≡◌, ◌<◌};
+ghost use Rattle.std.specs.Prelude.{◌≡◌};
 ghost use Rattle.rota_core.specs.InstanceTables.{problem_of};
 ghost use Rattle.rota_items.specs.Takes.{TakesItems};
 ghost use Rattle.rota_items.specs.SentItems.{runs_of};

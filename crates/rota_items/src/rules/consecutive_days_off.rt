@@ -1,5 +1,4 @@
 //! S3, consecutive days off: runs of days off that are too long or too short.
-ghost use Rattle.std.specs.Prelude.{◌<◌};
 ghost use Rattle.rota_core.specs.InstanceTables.{problem_of};
 ghost use Rattle.rota_items.specs.Takes.{TakesItems};
 ghost use Rattle.rota_items.specs.RunItems.{run_items};

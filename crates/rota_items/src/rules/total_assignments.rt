@@ -1,5 +1,5 @@
 //! S6, total assignments: assignments outside the limits of the nurse's total.
-ghost use Rattle.std.specs.Prelude.{◌≡◌, ◌<◌, ◌&&◌, nat_lt};
+ghost use Rattle.std.specs.Prelude.{◌≡◌, ◌&&◌, nat_lt};
 ghost use Rattle.rota_core.specs.InstanceTables.{problem_of};
 ghost use Rattle.rota_items.specs.CountedItems.{max_totals_count};
 ghost use Rattle.rota_items.specs.Takes.{TakesItems};

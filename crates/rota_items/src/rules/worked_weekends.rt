@@ -1,5 +1,5 @@
 //! S7, worked weekends: the weekends above the nurse's maximum.
-ghost use Rattle.std.specs.Prelude.{◌≡◌, ◌<◌, ◌&&◌, nat_le};
+ghost use Rattle.std.specs.Prelude.{◌≡◌, ◌&&◌, nat_le};
 ghost use Rattle.rota_core.specs.InstanceTables.{problem_of};
 ghost use Rattle.rota_items.specs.CountedItems.{max_totals_count};
 ghost use Rattle.rota_items.specs.Takes.{TakesItems};
