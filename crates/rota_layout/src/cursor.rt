@@ -1,6 +1,6 @@
 //! A position in a file's bytes, from which tokens are read.
 
-ghost use Rattle.std.specs.Prelude.{◌≡◌, ◌==◌, ℕ, ◌+◌, ◌<◌, ◌≤◌, ◌^◌, List, [], ◌∷◌, length, take, drop, false, MatchOption};
+ghost use Rattle.std.specs.Prelude.{◌≡◌, ℕ, ◌+◌, ◌<◌, ◌≤◌, ◌^◌, List, [], ◌∷◌, length, take, drop, false, MatchOption};
 ghost use Rattle.rota_core.specs.Words.{is_whitespace as blank_byte, is_sign as sign_byte};
 ghost use Rattle.rota_layout.specs.TokenLines.{tokens_from};
 ghost use Rattle.rota_layout.specs.Reading.{opened, ReadsFile};

@@ -1,6 +1,6 @@
 //! Reads the slots of a file.
 
-ghost use Rattle.std.specs.Prelude.{◌≡◌, ◌+◌, IfOk, ◌≤◌, ◌∷◌, [], MatchResult};
+ghost use Rattle.std.specs.Prelude.{◌≡◌, IfOk, ◌≤◌, ◌∷◌, [], MatchResult};
 ghost use Rattle.rota_core.specs.declared.fault.Kind.TheVariants.{Ended};
 ghost use Rattle.rota_layout.specs.Layout.{exactly, number, any_word, setting};
 ghost use Rattle.rota_layout.specs.Reading.{read_layout, Reads, check_end, ReadsFile};

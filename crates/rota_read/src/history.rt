@@ -1,6 +1,6 @@
 //! Reads a history file.
 
-ghost use Rattle.std.specs.Prelude.{◌≡◌, ◌<◌, length, map, None, unwrap_or, replicate, IfOk, IfErr};
+ghost use Rattle.std.specs.Prelude.{◌≡◌, length, map, None, unwrap_or, replicate, IfOk, IfErr};
 ghost use Rattle.rota_core.specs.Parts.{history_of};
 ghost use Rattle.rota_core.specs.Defaults.{no_past};
 ghost use Rattle.rota_core.specs.Limits.{AreLimited};
