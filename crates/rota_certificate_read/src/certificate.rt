@@ -5,7 +5,7 @@ ghost use Rattle.rota_core.specs.TreeNodes.{leaf_of, node_of};
 ghost use Rattle.rota_core.specs.declared.fault.FileName.TheVariants as files;
 ghost use Rattle.rota_certificate_read.specs.FactsLayout.{keyword};
 ghost use Rattle.rota_layout.specs.FileAnswers.{IsFaultOf};
-ghost use Rattle.rota_layout.specs.Layout.{number, repeat};
+ghost use Rattle.rota_layout.specs.Layout.{repeat};
 ghost use Rattle.rota_certificate_read.specs.CertificateLayout.{certificate, certificate_of, IsCertificateOf, leaf, list_row, node_word, SpellsCertificate, surcharge_row, table_row, tree};
 ghost use Rattle.rota_certificate_read.specs.CertificateRows.{lists_of};
 ghost use Rattle.rota_certificate_read.specs.TreeRows.{may_end, may_split, no_nodes, node_row, part_of, tree_nodes};

@@ -1,6 +1,6 @@
 //! Reads tables of prices.
 
-ghost use Rattle.std.specs.Prelude.{◌≡◌, ◌*◌, length, None, IfOk};
+ghost use Rattle.std.specs.Prelude.{◌≡◌, ◌*◌, length, IfOk};
 ghost use Rattle.rota_core.specs.Limits.{max_price};
 ghost use Rattle.rota_layout.specs.Layout.{many, number, repeat};
 ghost use Rattle.rota_layout.specs.DayRows.{no_day_rows};
