@@ -48,12 +48,11 @@ _LEAST = "least points"
 _MOST_POINTS = 10**9
 _SWAP = "swap"
 _RECORDED = "days recorded"
-_GOES_ON = "with the one before"
 _AS_PLANNED = "weeks as planned"
 # All names of a plan, and those that an older version may not have, some of which are lists.
 _NAMES = "verb,time,monday,weeks,weeks over,published,days away,agreed days".split(",")
 _LISTS = (_SET, _OPEN, _WAS, _HOLIDAYS, _SWAP, _AS_PLANNED)
-_NEWER = (*_LISTS, _TYPED, _PERIOD, _LEAST, _RECORDED, _GOES_ON)
+_NEWER = (*_LISTS, _TYPED, _PERIOD, _LEAST, _RECORDED)
 # The most periods of a folder.
 _MOST_PERIODS = 9999
 
@@ -86,7 +85,6 @@ def record_text(record: Record) -> str:
         **({} if record.least is None else {_LEAST: record.least}),
         **({_SWAP: [list(place) for place in record.swap.places]} if record.swap else {}),
         **({_RECORDED: record.recorded} if record.recorded else {}),
-        **({_GOES_ON: True} if record.goes_on else {}),
         **({_AS_PLANNED: [*record.as_planned]} if record.as_planned else {}),
     }
     lines = [
@@ -156,7 +154,7 @@ def _record_of(values: Any) -> Record:
     names = (*_NAMES, *_NEWER)
     if not isinstance(values, dict) or {*_NEWER, *values} != set(names):
         raise _Changed(f"it has not the names {', '.join(names)}")
-    missing = {**{name: [] for name in _LISTS}, _TYPED: "", _RECORDED: 0, _GOES_ON: False}
+    missing = {**{name: [] for name in _LISTS}, _TYPED: "", _RECORDED: 0}
     values = {**missing, **values}
     monday = values["monday"]
     weeks = _taken(values, "weeks", _is_number_to(MAX_WEEKS))
@@ -189,7 +187,6 @@ def _record_of(values: Any) -> Record:
         as_planned=tuple(_numbers(values, _AS_PLANNED, _is_number_to(weeks))),
         swap=_swap_of(_rows(values, _SWAP, [_is_text, is_day]), values["verb"], days),
         recorded=_taken(values, _RECORDED, _is_number_to(days.total)),
-        goes_on=_taken(values, _GOES_ON, _is_truth),
     )
 
 

@@ -105,8 +105,8 @@ def searched(
 
 def written(store: PlanStore, event: Event, found: Planned) -> Planned:
     """Writes the plan that was found, and those of the next periods that belong to it."""
-    for number, part in enumerate(found.parts):
-        store.add(part.verb, part.plan, event.typed, goes_on=number > 0)
+    then = [part.plan for part in found.parts[1:]]
+    store.add(found.verb, found.plan, event.typed, then=then)
     return saved(found, store.pages(found.plan))
 
 
@@ -125,8 +125,7 @@ def _with_next(
         return found
     seconds = min(found.asked.seconds, STOPPED_NEXT) if signals.caught else found.asked.seconds
     asked = found.asked._replace(first=0, seconds=seconds)
-    verb = " ".join([cause.word, cause.nurse, after.days.head(0)])
-    then = _planned(store, verb, cause.new, asked, cause, signals)
+    then = _planned(store, found.verb, cause.new, asked, cause, signals)
     if isinstance(then, Planned):
         then = _with_next(store, then, signals, gives=False)
     if isinstance(then, NoPlan):

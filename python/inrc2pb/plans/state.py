@@ -85,8 +85,6 @@ class Record(NamedTuple):
     swap: Swap | None = None
     # The first day after those that are recorded as they were worked.
     recorded: int = 0
-    # Whether its verb has made the plan before it, too, that of the period before.
-    goes_on: bool = False
     # The weeks that are over of which only is known how they were planned, since an older version
     # has ended them.
     as_planned: tuple[int, ...] = ()

@@ -28,7 +28,7 @@ from .reading import PlanReader, running
 from .roster_sheet import roster_sheets
 from .state import Record, Swap
 from .ward import WardPlan
-from .ward_folder import WardFolder
+from .ward_folder import WardFolder, plans_in
 from .worked_table import worked_tables
 
 
@@ -74,14 +74,15 @@ class PlanStore(PlanReader):
         plan: WardPlan,
         typed: str = "",
         swap: Swap | None = None,
-        goes_on: bool = False,
+        then: Sequence[WardPlan] = (),
     ) -> None:
-        """Writes the plan that this verb has made, for which these words were typed, without pages.
-        One that `goes_on` is taken back with the one before it."""
+        """Writes the plan that this verb has made, for which these words were typed, and those of
+        the next periods, without pages."""
         now = datetime.datetime.now()
-        record = plan.state.record(verb, now, typed, swap)._replace(goes_on=goes_on)
-        texts = plan_texts(plan, record)
-        self.folder.add(verb.split(" ", 1)[0], texts, now)
+        texts, *more = (
+            plan_texts(one, one.state.record(verb, now, typed, swap)) for one in (plan, *then)
+        )
+        self.folder.add(verb.split(" ", 1)[0], texts, now, more)
 
     def other_pages(self) -> tuple[str, ...]:
         """The names of pages that show another plan than the one that holds, as after a run that
@@ -208,7 +209,8 @@ class PlanStore(PlanReader):
     def _before(self, days: PlanDays) -> dict[str, set[int]]:
         """The days of each nurse's shifts in plans of these days that hung on the wall, also in
         those that were undone."""
-        return published_days([*self.folder.all_plans(), *self.folder.undone()], days)
+        undone = (plan for made in self.folder.undone() for plan in plans_in(made))
+        return published_days([*self.folder.all_plans(), *undone], days)
 
 
 def plan_texts(plan: WardPlan, record: Record) -> dict[str, str]:

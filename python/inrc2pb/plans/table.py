@@ -1,7 +1,6 @@
 """The verbs of a ward's folder: all that the terminal and the page can ask for."""
 
 import datetime
-import itertools
 from dataclasses import replace
 from pathlib import Path
 from typing import NamedTuple
@@ -82,12 +81,8 @@ class Verbs:
         a terminal, or on the page, which says from which address."""
         folder = self._store.folder
         undone = folder.undone()
-        plans = sorted([*folder.all_plans(), *undone], key=place_of, reverse=True)
-        firsts = (plan for plan in plans if not _goes_on(plan))
-        return [
-            Done(_done_text(plan), holds=plan not in undone)
-            for plan in itertools.islice(firsts, most)
-        ]
+        plans = sorted([*folder.made(), *undone], key=place_of, reverse=True)
+        return [Done(_done_text(plan), holds=plan not in undone) for plan in plans[:most]]
 
     def asked(self, event: Event) -> Outcome | None:
         """What comes of an event before anything is searched or written, as far as that is known.
@@ -107,12 +102,6 @@ class Verbs:
     def written(self, planned: Planned, event: Event) -> Planned:
         """Writes the plan that an event has found, after its user has looked at it."""
         return written(self._store, event, replace(planned, is_look=False))
-
-
-def _goes_on(plan: Path) -> bool:
-    """Whether the verb of a plan is that of the one before it, too."""
-    record = known_record(plan)
-    return record is not None and record.goes_on
 
 
 def _done_text(plan: Path) -> str:

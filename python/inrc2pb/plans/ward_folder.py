@@ -28,10 +28,11 @@ from ..week.own_files import check_inside, check_no_link
 from ..week.words import quoted
 from ..week.writing import flush, write_text
 from .kept import Kept, looks_of
-from .plan_files import check_readable, known_record
+from .plan_files import check_readable
 
 PLANS = "plans"
 UNDONE = "undone"
+NEXT = "next"
 LOCK = "lock"
 _SPREADSHEETS = (".ods", ".xlsx")
 _CSV = (".csv", ".tsv")
@@ -62,7 +63,7 @@ def tables_of(spreadsheet: Path) -> list[Path]:
 
 class WardFolder:
     """A folder with a spreadsheet. The plans are the folders `plans/NNNN-TIME-VERB`; the last of
-    them holds."""
+    them holds. If its verb has planned the next period, too, that is the folder `next` in it."""
 
     def __init__(self, top: Path) -> None:
         if not top.is_dir():
@@ -146,13 +147,17 @@ class WardFolder:
         spreadsheet = self.spreadsheet()
         return self._book.of(tables_of(spreadsheet), None, lambda: read_book(spreadsheet))
 
+    def made(self) -> list[Path]:
+        """The folders that verbs have made, in their order."""
+        return sorted(_own_folders(self.plans), key=place_of)
+
     def all_plans(self) -> list[Path]:
         """The folders of all plans, in the order in which they were made."""
-        return sorted(_own_folders(self.plans), key=place_of)
+        return [plan for made in self.made() for plan in plans_in(made)]
 
     def last(self) -> Path | None:
         """The folder of the plan that holds, if there is one."""
-        return next(reversed(self.all_plans()), None)
+        return next(reversed(self.made()), None)
 
     @property
     def stamp(self) -> str:
@@ -164,7 +169,11 @@ class WardFolder:
     def files(self) -> list[Path]:
         """The files of the spreadsheet, and of the plan that holds."""
         last = self.last()
-        return [*tables_of(self.spreadsheet()), *(sorted(last.iterdir()) if last else ())]
+        plans = plans_in(last) if last else ()
+        return [
+            *tables_of(self.spreadsheet()),
+            *(path for plan in plans for path in sorted(plan.iterdir())),
+        ]
 
     @property
     def seen(self) -> str:
@@ -176,21 +185,30 @@ class WardFolder:
             looks = str(fault)
         return f"{self.stamp} {zlib.crc32(looks.encode(errors='surrogateescape')):08x}"
 
-    def add(self, verb: str, texts: dict[str, str], now: datetime.datetime) -> Path:
-        """Writes a plan with these files: its folder is there as a whole or not at all. Raises
-        Misuse if no later verb could read it."""
-        number = 1 + max(
-            (place_of(path)[0] for path in [*self.all_plans(), *self.undone()]), default=0
-        )
+    def add(
+        self,
+        verb: str,
+        texts: dict[str, str],
+        now: datetime.datetime,
+        then: Sequence[dict[str, str]] = (),
+    ) -> Path:
+        """Writes a plan with these files, and those of the next periods: their folder is there as a
+        whole or not at all. Raises Misuse if no later verb could read it."""
+        number = 1 + max((place_of(path)[0] for path in [*self.made(), *self.undone()]), default=0)
         target = self.plans / f"{number:04}-{now:%Y-%m-%d-%H%M}-{verb}"
         new = Path(tempfile.mkdtemp(prefix=".new-", dir=self.plans))
+        folder = new
         try:
-            for name, text in texts.items():
-                write_text(new / name, text)
-            check_readable(new)
+            for files in (texts, *then):
+                folder.mkdir(exist_ok=True)
+                for name, text in files.items():
+                    write_text(folder / name, text)
+                check_readable(folder)
+                folder = folder / NEXT
             os.chmod(new, 0o777 & ~_umask_of(self.plans))
-            for path in (*sorted(new.iterdir()), new):
-                flush(path)
+            for folder in reversed([*plans_in(new)]):
+                for path in (*sorted(folder.iterdir()), folder):
+                    flush(path)
             os.rename(new, target)
             flush(self.plans)
         except BaseException as fault:
@@ -212,17 +230,15 @@ class WardFolder:
         return last
 
     def undo(self) -> Path:
-        """Takes the last plan away, to the folder `undone`, and with one that goes on the plan
-        before it, that of the same verb. Returns the new path of the first one."""
+        """Takes the last plan away, to the folder `undone`. Returns its new path."""
         last = self.check_undo()
         undone = self.plans / UNDONE
         check_no_link(undone)
         undone.mkdir(exist_ok=True)
-        record = known_record(last)
         path = last.rename(undone / last.name)
         for folder in (undone, self.plans):
             flush(folder)
-        return self.undo() if record and record.goes_on and self.last() else path
+        return path
 
     @contextlib.contextmanager
     def locked(self, say: Callable[[str], None], end: str = "") -> Iterator[None]:
@@ -279,6 +295,14 @@ def _own_folders(top: Path) -> list[Path]:
         for path in top.iterdir()
         if _NAME.fullmatch(path.name) and path.is_dir() and not path.is_symlink()
     ]
+
+
+def plans_in(made: Path) -> Iterator[Path]:
+    """The folder that a verb has made, and in it that of the next period, if it has made its plan,
+    too."""
+    while made.is_dir() and not made.is_symlink():
+        yield made
+        made = made / NEXT
 
 
 def place_of(plan: Path) -> tuple[int, str]:

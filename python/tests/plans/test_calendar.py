@@ -15,7 +15,8 @@ from ward import HAS_CBC, run
 
 from inrc2pb.plans.plan_files import read_state
 from inrc2pb.plans.facts import breaks
-from inrc2pb.plans.store import Means, PlanStore, plan_texts
+from inrc2pb.plans import ward_folder
+from inrc2pb.plans.store import Means, plan_texts
 from inrc2pb.plans.table import Verbs
 from inrc2pb.plans.verb import Event
 from inrc2pb.plans.ward_folder import WardFolder
@@ -248,23 +249,22 @@ class AcrossTheBorder(CalendarTest):
         self.does("undo")
         self.assertEqual(len(self.away()), 4)
 
-    def test_a_plan_that_a_killed_run_has_written_alone(self):
-        add = PlanStore.add
+    def test_both_plans_are_written_or_none(self):
+        check = ward_folder.check_readable
 
-        def killed(store, verb, plan, typed="", swap=None, goes_on=False):
-            if goes_on:
+        def ends(folder):
+            if folder.name == "next":
                 raise KeyboardInterrupt
-            add(store, verb, plan, typed, swap)
+            check(folder)
 
-        with mock.patch.object(PlanStore, "add", killed):
-            self.runs("ill", "Finn", "12.12.", "15.12.", "--open")
-        self.assertEqual(self.away(), {("Finn", 12): "ill", ("Finn", 13): "ill"})
+        before = sorted(self.ward.rglob("*"))
+        with mock.patch.object(ward_folder, "check_readable", ends):
+            status = self.runs("ill", "Finn", "12.12.", "15.12.", "--open")[0]
+        self.assertEqual((status, sorted(self.ward.rglob("*"))), (130, before))
         self.does("ill", "Finn", "12.12.", "15.12.", "--open")
         self.assertEqual(len(self.away()), 4)
-        self.does("undo")
-        self.assertEqual(len(self.away()), 2)
-        self.does("undo")
-        self.assertEqual(self.away(), {})
+        self.assertEqual(read_state(self.last()).period, 0)
+        self.assertEqual(read_state(self.last() / "next").period, 1)
 
     def test_days_of_a_period_that_is_not_planned(self):
         for _ in range(2):

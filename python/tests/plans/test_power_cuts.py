@@ -25,6 +25,13 @@ def adds(ward):
     return folder.add("plan", texts, datetime.datetime(2026, 11, 28, 12, 0))
 
 
+def adds_two(ward):
+    """The same, with a copy as the plan of the next period."""
+    folder = WardFolder(ward)
+    texts = {path.name: path.read_text() for path in folder.last().iterdir()}
+    return folder.add("ill", texts, datetime.datetime(2026, 11, 28, 12, 0), [texts])
+
+
 def undoes(ward):
     """Takes the last plan back."""
     return WardFolder(ward).undo()
@@ -97,6 +104,16 @@ class PowerCuts(FolderTest):
         for recorder in RECORDERS:
             calls, wanted = self.added(recorder)
             self.assertEqual(calls, wanted, recorder.__name__)
+
+    def test_plans_of_two_periods_get_their_name_together(self):
+        calls = recorded(adds_two, self.ward)
+        new = next(call[1] for call in calls if call[0] == "rename")
+        names = sorted(path.name for path in (self.last() / "next").iterdir())
+        inner = [("fsync", f"{new}/next/{name}") for name in names]
+        files = [("fsync", f"{new}/{name}") for name in sorted([*names, "next"])]
+        moved = ("rename", new, str(self.last()))
+        wanted = [*inner, ("fsync", f"{new}/next"), *files, ("fsync", new), moved]
+        self.assertEqual(calls, [*wanted, ("fsync", self.plans)])
 
     def test_an_undone_plan_has_its_new_name_on_the_disk_before_it_loses_the_old_one(self):
         for recorder in RECORDERS:
