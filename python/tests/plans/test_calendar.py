@@ -458,6 +458,22 @@ class NextBeforeTheEnd(CalendarTest):
         self.does("over")
         self.assertEqual(read_state(self.last()).open_week, 1)
 
+    def test_all_of_december_may_be_deleted_after_january_is_published(self):
+        self.plan_january()
+        self.does("over")
+        self.does("over")
+        self.does("page")
+        plan = self.reader().current()
+        for folder in (self.ward / "plans").glob("0*"):
+            if folder != self.last():
+                shutil.rmtree(folder)
+        self.write_next(NEXT)
+        for words in (("check",), ("page",), ("set", "Grace", "14.12.", "off", "--open", "--do")):
+            self.does(*words, *(("--time", "0") if "set" in words else ()))
+        now = self.reader().current()
+        self.assertEqual((now.days, now.past), (plan.days, plan.past))
+        self.assertEqual(set(now.cells), {one for one in plan.cells if one[:2] != ("Grace", 0)})
+
     def test_a_correction_of_december_reaches_january(self):
         self.plan_january(least=0)
         self.does("over")
