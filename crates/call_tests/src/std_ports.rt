@@ -1,6 +1,6 @@
 //! The standard library's readers and writers as ports. Nothing is tried again after an error. Short reads
 //! and writes are passed on, and so is each flush.
-ghost use Rattle.std.specs.Prelude.{◌≡◌, ◌≤◌, IfOk};
+ghost use Rattle.std.specs.Prelude.{◌≤◌, IfOk};
 
 use byte_ports::{FromRead, PortFault, Source, Target, ToWrite};
 use std::io;

@@ -1,6 +1,5 @@
 //! A file read whole.
 ghost use Rattle.std.specs.Prelude.{◌+◌, IfOk, IfErr};
-ghost use Rattle.rota_pb.specs.declared.fault.Fault.TheVariants.{Memory, Read};
 ghost use Rattle.rota_pb.specs.RunPorts.{reader_of, IsReadUpTo};
 ghost use Rattle.rota_pb.specs.RunParts.{StopsReading};
 
