@@ -84,7 +84,7 @@ class PlanReader:
         if periods and periods[-1].days.monday is not None:
             with contextlib.suppress(FileFault, FileFaults):
                 after = periods[-1].days.next()._replace(weeks=self._usual_weeks(periods))
-                if self.folder.days().first_of(after) is not None:
+                if self.folder.days(self._gone()).first_of(after) is not None:
                     days[periods[-1].number + 1] = after
         return days
 
@@ -120,10 +120,10 @@ class PlanReader:
         assert state
         state = replace(state, is_as_planned=before is not None and not before.is_over)
         weeks = self._usual_weeks(list(periods.values()))
-        days = state.days if known else _first_weeks(self.folder.days(), state.days, weeks)
+        gone = self._gone()
+        days = state.days if known else _first_weeks(self.folder.days(gone), state.days, weeks)
         of_before = (past, state_of(before).was) if before and past else (state.start, state.was)
         begin = Begin(tuple(of_before[0].nurses.values()), of_before[1]) if number else Begin()
-        gone = self._gone(known) if known else Gone()
         ward = self.folder.ward(
             state.start.scenario, state.absences, days, state.opened, begin, gone
         )
@@ -146,14 +146,23 @@ class PlanReader:
                 plan = past_plan(period)
                 raise missing_days(plan, self._sheet_words(plan), missing)
 
-    def _gone(self, period: Period) -> Gone:
-        """The first days of a period whose columns were taken out, since they are over."""
-        begins = min(self.folder.dates(), default=None)
-        days = (begins - period.days.monday).days if begins and period.days.monday else 0
-        if not 0 < days <= WEEK_DAYS * period.open_week:
-            return Gone()
-        words = self._sheet_words(past_plan(period))
-        return Gone(days, tuple(word for word in words if word.day < days))
+    def _gone(self) -> Gone | None:
+        """The days that are over, if the sheet plan has not all of them, or other ones before."""
+        periods = self.periods()
+        dates = self.folder.dates()
+        runs = next((period for period in periods if not period.is_over), None)
+        days = runs.days if runs else periods[-1].days.next() if periods else PlanDays(None, 0)
+        if not dates or days.monday is None:
+            return None
+        over = WEEK_DAYS * runs.open_week if runs else 0
+        past = {date for date in dates if date < days.date(over)}
+        since = min(past, default=days.date(over))
+        is_whole = since <= days.date(0) and since.weekday() == 0
+        if len(past) == len(dates) or (is_whole and len(past) == (days.date(over) - since).days):
+            return None
+        words = self._sheet_words(past_plan(runs)) if runs and over else []
+        gone = [word for word in words if word.day < over and days.date(word.day) not in dates]
+        return Gone(days, over, tuple(gone))
 
     def _sheet_words(self, plan: WardPlan) -> list[DayWord]:
         """What the cells of a plan had, with the names of now."""

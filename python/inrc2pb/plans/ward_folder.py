@@ -110,17 +110,17 @@ class WardFolder:
         period: PlanDays | None = None,
         opened: Sequence[OpenShift] = (),
         begin: Begin = Begin(),
-        gone: Gone = Gone(),
+        gone: Gone | None = None,
     ) -> Ward:
         """The ward of a period of the spreadsheet, or of all its days; it has this name, if it has
-        one, and these days away in its plan, these shifts are left open, nurses begin so, and of
-        the period these days have no columns any more."""
+        one, and these days away in its plan, these shifts are left open, nurses begin so, and these
+        days are over, some of them without a column."""
         spreadsheet = self.spreadsheet()
         return self._ward.of(
             tables_of(spreadsheet),
             (name, tuple(absences), period, tuple(opened), begin, gone),
             lambda: ward_of(
-                with_gone(self.book(), period, gone) if period else self.book(),
+                with_gone(self.book(), gone),
                 name or ward_name(spreadsheet),
                 absences,
                 period=period,
@@ -129,9 +129,10 @@ class WardFolder:
             ),
         )
 
-    def days(self) -> PlanDays:
-        """All days of the sheet plan."""
-        return read_days(self.book()).sheet
+    def days(self, gone: Gone | None = None) -> PlanDays:
+        """All days of the sheet plan, and those of which some have no column since they are
+        over."""
+        return read_days(with_gone(self.book(), gone)).sheet
 
     def dates(self) -> frozenset[datetime.date]:
         """The dates of the heads of the sheet plan; none if some of them have none."""

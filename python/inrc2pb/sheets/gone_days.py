@@ -6,30 +6,43 @@ from typing import NamedTuple
 from ..week.dates import PlanDays
 from ..week.faults import Gathering
 from .older_names import Renamed, older_names
-from .plan_days import read_days
+from .plan_days import date_of, read_days
 from .sheet_files import Book
+from .sheet_rows import Table
 from .ward_sheets import HEADS, days_off, table_of
 from .written_days import DayWord, with_written
 
 
 class Gone(NamedTuple):
-    """The first days of a period whose columns were taken out of the sheet plan, since they are
-    over: their number, and what their cells had, as far as that counts."""
+    """A period that runs, how many of its first days are over, and what the cells had of those
+    whose columns were taken out of the sheet plan, as far as that counts."""
 
+    period: PlanDays
     days: int = 0
     words: tuple[DayWord, ...] = ()
 
 
-def with_gone(book: Book, period: PlanDays, gone: Gone) -> Book:
-    """The spreadsheet with the columns of these days of a period, behind the others."""
-    if not gone.days:
+def with_gone(book: Book, gone: Gone | None) -> Book:
+    """The spreadsheet in which the days that are over stand behind the others: those of the period
+    that runs, all of them, and no older ones."""
+    if gone is None:
         return book
+    columns = Table(book, "plan", ("nurse",), open_end=True).others
     rows = [list(row) for row in book.sheets["plan"]]
-    heads = rows[read_days(book).columns[0].row - 1]
-    heads += [""] * (max(map(len, rows)) - len(heads))
-    heads += [period.head(day) for day in range(gone.days)]
+    heads = rows[columns[0].row - 1]
+    width = max(map(len, rows))
+    for row in rows:
+        row += [""] * (width + gone.days - len(row))
+    for cell in columns:
+        date = date_of(cell)
+        day = (date - gone.period.date(0)).days if date else gone.days
+        for row in rows if 0 <= day < gone.days else ():
+            row[width + day] = row[cell.column]
+        if day < gone.days:
+            heads[cell.column] = "#"
+    heads[width:] = [gone.period.head(day) for day in range(gone.days)]
     added = book._replace(sheets={**book.sheets, "plan": rows}, added=gone.days)
-    return with_written(added, read_days(added, period), gone.words)
+    return with_written(added, read_days(added, gone.period), gone.words)
 
 
 def always_off(book: Book) -> dict[str, list[int]]:

@@ -178,6 +178,26 @@ class ColumnsThatAreOver(CalendarTest):
                 self.assertNotIn("1 Dec:", said.replace("11 Dec:", ""))
         self.assertEqual(sorted(self.ward.glob("plans/0*")), plans)
 
+    def test_single_days_that_are_over_may_go(self):
+        self.plan_january()
+        before, january = self.reader().current(), self.january()
+        rows = [list(row) for row in self.rows["plan"]]
+        for gone in ((0,), (1, 2, 5), range(3), range(4, WEEK_DAYS), range(1, WEEK_DAYS)):
+            self.rows["plan"] = [list(row) for row in rows]
+            self.without(*gone)
+            now = self.reader().current()
+            for name in ("days", "reasons", "promised", "weeks", "counted", "scenario"):
+                self.assertEqual(getattr(now.ward, name), getattr(before.ward, name), (name, gone))
+            self.assertEqual(self.january().days, january.days)
+            self.assertIn("No mistake", re.sub("warning: .*", "No mistake", self.does("check")))
+        self.does("over")
+        # Some days of December are left, and January runs.
+        self.rows["plan"] = rows
+        self.without(*range(10), 12)
+        now = self.reader().current()
+        self.assertEqual((now.days, now.cells), (january.days, january.cells))
+        self.does("page")
+
     def test_undo_needs_them_again(self):
         self.without(*range(WEEK_DAYS))
         printed = self.does("undo")
