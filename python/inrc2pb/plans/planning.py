@@ -130,7 +130,8 @@ def _with_next(
         then = _with_next(store, then, signals, gives=False)
     if isinstance(then, NoPlan):
         return then
-    return replace(found, then=then, ended_by=then.ended_by)
+    status = found.status if found.status is Status.NOT_KEPT else then.status
+    return replace(found, then=then, ended_by=then.ended_by, status=status)
 
 
 def _planned(

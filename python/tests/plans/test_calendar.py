@@ -15,7 +15,7 @@ from ward import HAS_CBC, run
 
 from inrc2pb.plans.plan_files import read_state
 from inrc2pb.plans.facts import breaks
-from inrc2pb.plans import ward_folder
+from inrc2pb.plans import planning, ward_folder
 from inrc2pb.plans.store import Means, plan_texts
 from inrc2pb.plans.table import Verbs
 from inrc2pb.plans.verb import Event
@@ -268,6 +268,15 @@ class AcrossTheBorder(CalendarTest):
         self.assertEqual(words, ({("Finn", 12): "ill"}, {}))
         self.does("undo")
         self.assertEqual(len(self.away()), 4)
+
+    def test_the_status_is_that_of_both_plans(self):
+        kept = planning.unkept
+        for period in (0, 1):
+            unkept = mock.Mock(side_effect=lambda plan: plan.state.period == period or kept(plan))
+            with mock.patch.object(planning, "unkept", unkept):
+                status = self.runs("ill", "Finn", "12.12.", "15.12.", "--open")[0]
+            self.assertEqual((status, len(self.away())), (6, 4), period)
+            self.does("undo")
 
     def test_both_plans_are_written_or_none(self):
         check = ward_folder.check_readable
