@@ -34,11 +34,12 @@ def obstacles(
     """Why the nurse may not have this shift, with these absences, and with her shift types on the
     days before and after it."""
     is_away = Absence(cell.nurse, cell.day, None) in away
-    is_so = {
-        Obstacle.AWAY: is_away,
-        Obstacle.NEVER: not is_away and Absence(cell.nurse, cell.day, cell.shift) in away,
-        Obstacle.SKILL: cell.skill not in scenario.nurses[cell.nurse].skills,
-        Obstacle.FOLLOWS: scenario.forbids(before, cell.shift),
-        Obstacle.PRECEDES: scenario.forbids(cell.shift, after),
-    }
-    return [obstacle for obstacle, is_there in is_so.items() if is_there]
+    # An enumeration's values take long to look up in a dictionary.
+    is_so = (
+        (Obstacle.AWAY, is_away),
+        (Obstacle.NEVER, not is_away and Absence(cell.nurse, cell.day, cell.shift) in away),
+        (Obstacle.SKILL, cell.skill not in scenario.nurses[cell.nurse].skills),
+        (Obstacle.FOLLOWS, scenario.forbids(before, cell.shift)),
+        (Obstacle.PRECEDES, scenario.forbids(cell.shift, after)),
+    )
+    return [obstacle for obstacle, is_there in is_so if is_there]

@@ -24,7 +24,7 @@ from ..week.files import (
 )
 from ..week.own_files import check_own
 from ..week.records import Cell, History, NurseDay, Scenario, Solution, in_plan
-from ..week.slots import MAX_NUMBER, MAX_WEEKS, text_of
+from ..week.slots import MAX_NUMBER, MAX_WEEKS, is_utf8, text_of
 from .kept import Looks, is_settled, looks_of
 from .state import Record, SetDay, State, Swap
 
@@ -121,7 +121,7 @@ def _record_in(path: Path) -> Record:
         raise FileFault(path, 0, f"the file has more than {_MOST_BYTES} bytes: {_CURE}")
     text = text_of(path)
     for number, line in enumerate(text.split("\n"), 1):
-        if any("\udc80" <= letter <= "\udcff" for letter in line):
+        if not is_utf8(line):
             raise FileFault(
                 path,
                 number,

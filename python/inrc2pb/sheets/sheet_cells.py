@@ -1,5 +1,6 @@
 """The cells of a sheet: their texts, as names, numbers and words, and faults that name a cell."""
 
+import functools
 import re
 import unicodedata
 from typing import Collection, NamedTuple, NoReturn, Sequence
@@ -15,6 +16,8 @@ _SEVERAL = re.compile(r"[,;/]")
 # Signs without a width, which a text from a page or a message may have.
 _NO_WIDTH = re.compile("[\u200b-\u200d\u2060\ufeff]")
 _DATE = re.compile("[0-9]{4}-[0-9]{2}-[0-9]{2}")
+# How many texts are kept: cells have the same few words many times.
+_KEPT_TEXTS = 10_000
 SUM = re.compile(r"=([0-9]{1,4})\+([0-9]{1,4})")
 # A number with words or a sign, as `ca. 2`, `~2` or `2 nurses`.
 _ABOUT = re.compile(
@@ -29,6 +32,7 @@ _GERMAN = (
 KEPT = "!"
 
 
+@functools.lru_cache(maxsize=_KEPT_TEXTS)
 def tidy(text: str) -> str:
     """The text with composed letters, and with one blank for each sequence of them, of whatever
     kind."""

@@ -175,19 +175,11 @@ class Table:
         file."""
         with Gathering() as faults:
             for row in self.rows:
-                for column in sorted(columns):
-                    cell = row.at(column)
-                    with faults.step():
-                        if _BROKEN.fullmatch(cell.text):
-                            cell.fault(
-                                f"a formula has the fault {cell.text}: correct it, or write its"
-                                " value in its place"
-                            )
-                        if cell.text.startswith("=") and not SUM.fullmatch(cell.text):
-                            cell.fault(
-                                f"the value of the formula {cell.text} is not in the file: {_SAVE},"
-                                " or write the value"
-                            )
+                for cell in map(row.at, sorted(columns)):
+                    wrong = _wrong_formula(cell.text)
+                    if wrong:
+                        with faults.step():
+                            cell.fault(wrong)
 
     def _meant(self, head: str, taken: Collection[str]) -> str | None:
         """The column that a wrong head most likely means: none that the sheet has already."""
@@ -195,6 +187,15 @@ class Table:
         return closest(head, free) or next(
             (name for name in free if {*head.split()} & {*name.split()}), None
         )
+
+
+def _wrong_formula(text: str) -> str:
+    """What is wrong with a cell that is a formula; nothing if it is none, or a sum."""
+    if _BROKEN.fullmatch(text):
+        return f"a formula has the fault {text}: correct it, or write its value in its place"
+    if text.startswith("=") and not SUM.fullmatch(text):
+        return f"the value of the formula {text} is not in the file: {_SAVE}, or write the value"
+    return ""
 
 
 def _joined_head(rows: Rows, first: int, open_end: bool) -> tuple[list[str], int]:

@@ -53,6 +53,8 @@ def _text(value: str) -> str:
 
 def _folded(line: str) -> str:
     """A content line, folded between letters."""
+    if len(line.encode()) <= _LINE:
+        return line
     parts = [""]
     size = 0
     for letter in line:

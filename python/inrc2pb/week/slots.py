@@ -27,6 +27,8 @@ MAX_SHIFTS = 16
 MAX_CONTRACTS = 64
 MAX_NURSES = 1000
 SIGNS = "(),="
+# The signs to which `text_of` decodes bytes that are no UTF-8.
+_NO_UTF8 = re.compile("[\udc80-\udcff]")
 _TOKEN = re.compile(r"[(),=]|[^ \t\n\r(),=]+")
 _COMMENT_STARTS = ("#", "//", ";", "%", "/*", "<!--", "--")
 
@@ -67,7 +69,7 @@ def tokens_of(text: str) -> list[Token]:
 
 def is_utf8(word: str) -> bool:
     """Whether no byte of the word was decoded to a surrogate by `text_of`."""
-    return not any("\udc80" <= letter <= "\udcff" for letter in word)
+    return word.isascii() or not _NO_UTF8.search(word)
 
 
 def _comment_hint(word: str) -> str:
