@@ -49,7 +49,7 @@ class Words(KeptTest):
         printed = "".join(self.runs(*words)[1] for words in verbs)
         forms = {form(line) for line in printed.splitlines()}
         lines = shown(heading)
-        self.assertGreater(len(lines), 2)
+        self.assertGreater(len(lines), 1)
         while lines:
             line = lines.pop(0)
             if form(line) not in forms and lines:
@@ -66,13 +66,12 @@ class Words(KeptTest):
         swap = ("swap", "Grace", "Fri", "Finn")
         self.assert_shown("Two nurses swap", swap[:3], swap, (*swap, "--do"), (*swap, "--do"))
 
-    def test_a_promise_and_the_way_back(self):
+    def test_a_promise(self):
         off = ("set", "Grace", "Wed", "2", "off", "her", "sister", "marries", "--time", "0")
         self.does("page")
         self.does("swap", "Grace", "Fri", "Finn", "--do")
         refused = ("swap", "Chen", "Wed", "2", "Grace")
         self.assert_shown("You decide one day yourself", off, (*off, "--do"), refused)
-        self.assert_shown("You did the wrong thing", ("undo",))
 
     def test_the_end_of_a_week(self):
         self.does("page")
