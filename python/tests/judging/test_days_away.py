@@ -126,15 +126,15 @@ class Rows(unittest.TestCase):
         chance = random.Random(11)
         types = list(WARD.shift_types)
         seen = {False: 0, True: 0}
+        plain = Plan.of(WARD, PAST, [DATA, DATA])
+        without = Pricing(plain, Crews(plain), lambda: None)
         for _ in range(25):
             nurse = chance.choice(["Grace", "Amara", "Dilek", "Ewa"])
             signs = [chance.choice("......TTF") for _ in range(14)]
             away = away_of(nurse, signs, fixed=chance.choice([0, 0, 2, 5]))
-            plain = Plan.of(WARD, PAST, [DATA, DATA])
             plan = replace(plain, beside=away)
-            prices = [
-                Pricing(one, Crews(plan), lambda: None)
-                for one in (plain, plan, plan.kept(ABSENCES_KEPT))
+            kept = [
+                Pricing(one, Crews(plan), lambda: None) for one in (plan, plan.kept(ABSENCES_KEPT))
             ]
             number = list(WARD.nurses).index(nurse)
             for _ in range(40):
@@ -142,7 +142,8 @@ class Rows(unittest.TestCase):
                     0 if sign != "." or chance.random() < 0.2 else chance.choice((1, 1, 2, 3))
                     for sign in signs
                 )
-                cost, strict, less_strict = (pricing.cost(number, row) for pricing in prices)
+                cost = without.cost(number, row)
+                strict, less_strict = (pricing.cost(number, row) for pricing in kept)
                 if cost is None:
                     self.assertEqual((strict, less_strict), (None, None))
                     continue
