@@ -2,6 +2,7 @@
 for and contracts supply."""
 
 import math
+from collections import Counter
 from fractions import Fraction
 from typing import Collection, Iterator, Mapping, NamedTuple, Sequence
 
@@ -134,15 +135,13 @@ def _supplied_to_the_end(scenario: Scenario, history: History, weeks: Sequence[W
     """The shifts that contracts allow in these weeks, on days on which nurses are not away."""
     away = in_plan(absences_of(data) for data in weeks)
     off = {absence.nurse_day for absence in away if absence.shift is None}
+    days_off = Counter(nurse for nurse, _ in off)
     days = len(DAYS) * len(weeks)
     left = {
         nurse: scenario.contract_of(nurse).assignments.maximum - past.assignments
         for nurse, past in history.nurses.items()
     }
-    return sum(
-        max(0, min(left[nurse], days - sum(who == nurse for who, _ in off)))
-        for nurse in scenario.nurses
-    )
+    return sum(max(0, min(left[nurse], days - days_off[nurse])) for nurse in scenario.nurses)
 
 
 def can_work(
@@ -179,7 +178,13 @@ def _shortage(
         for place in set(places)
     }
     filled: dict[str, int] = {}
-    for slot in range(len(places)):
+    # Who has a place is never without one again, so each place asks each nurse once.
+    asked = {place: iter(nurses) for place, nurses in could.items()}
+    for slot, place in enumerate(places):
+        free = next((nurse for nurse in asked[place] if nurse not in filled), None)
+        if free:
+            filled[free] = slot
+            continue
         tried = _fill(slot, places, could, filled)
         if tried is not None:
             some = {places[slot], *(places[filled[nurse]] for nurse in tried)}
@@ -191,8 +196,8 @@ def _shortage(
 def _fill(
     slot: int, places: Sequence[Place], could: dict[Place, list[str]], filled: dict[str, int]
 ) -> list[str] | None:
-    """Finds a nurse for a place, if need be by giving others another place. If there is none,
-    returns all nurses who were tried."""
+    """Finds a nurse for a place by giving others another place. If there is none, returns all
+    nurses who were tried."""
     came: dict[str, int] = {}
     waiting = [slot]
     for other in waiting:

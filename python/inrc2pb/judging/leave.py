@@ -8,13 +8,14 @@ only if nothing is on the weekdays beside it.
 """
 
 import math
+from collections import Counter
 import re
 from dataclasses import replace
 from fractions import Fraction
 from typing import Collection, Iterable, Mapping, NamedTuple
 
 from ..week.faults import Misuse
-from ..week.records import WEEK_DAYS, History, NurseDay, Scenario
+from ..week.records import WEEK_DAYS, History, NurseDay, Scenario, together
 from ..week.slots import MAX_NUMBER
 from ..week.words import plural, readable
 from .rules import SATURDAY
@@ -56,21 +57,15 @@ def counted(
         for place, word in reasons.items()
         if word in words
     }
-    nurses = list(dict.fromkeys(nurse for nurse, _ in days))
-    shifts = {
-        nurse: math.ceil(sum(number for (who, _), number in days.items() if who == nurse))
-        for nurse in nurses
-    }
+    numbers = together((nurse, number) for (nurse, _), number in days.items())
+    shifts = {nurse: math.ceil(sum(of_nurse)) for nurse, of_nurse in numbers.items()}
     on_weekends = (NurseDay(nurse, day) for nurse, day in days if day % WEEK_DAYS >= SATURDAY)
     trained = {
         (nurse, day // WEEK_DAYS)
         for nurse, day in on_weekends
         if reasons[NurseDay(nurse, day)] == TRAINING
     }
-    weekends = {
-        nurse: sum(who == nurse for who, _ in trained)
-        for nurse in dict.fromkeys(nurse for nurse, _ in sorted(trained))
-    }
+    weekends = dict(Counter(nurse for nurse, _ in sorted(trained)))
     return Counted(days, shifts, weekends)
 
 

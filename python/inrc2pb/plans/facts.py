@@ -138,7 +138,7 @@ def too_many_shifts(plan: WardPlan) -> list[TooManyShifts]:
             and fact.nurse is not None
         ):
             contract = plan.scenario.contract_of(fact.nurse).assignments.maximum
-            shifts = plan.shifts_of(fact.nurse)
+            shifts = plan.shifts_of[fact.nurse]
             most = contract + fact.most
             if shifts > most:
                 too_many.append(

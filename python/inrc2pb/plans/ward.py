@@ -1,8 +1,9 @@
 """A plan of a ward: what its spreadsheet says now, and what verbs have made of it."""
 
+from collections import Counter
 from dataclasses import dataclass, replace
 from functools import cached_property
-from typing import Iterable, Sequence
+from typing import Iterable, Mapping, Sequence
 
 from ..judging.absences import absences_of
 from ..judging.days_away import DaysAway
@@ -194,12 +195,12 @@ class WardPlan:
         """The days of a week in sentences."""
         return [self.days.text(WEEK_DAYS * number + day) for day in range(WEEK_DAYS)]
 
-    def shifts_of(self, nurse: str) -> int:
-        """The shifts of a nurse in the period, with those as which days away count, but none of
+    @cached_property
+    def shifts_of(self) -> Mapping[str, int]:
+        """The shifts of each nurse in the period, with those as which days away count, but none of
         these days."""
-        return self.past.nurses[nurse].assignments + sum(
-            place.nurse == nurse and place not in self.away for place in self.works
-        )
+        there = Counter(place.nurse for place in self.works if place not in self.away)
+        return {nurse: past.assignments + there[nurse] for nurse, past in self.past.nurses.items()}
 
     def with_cells(self, cells: Iterable[Cell]) -> "WardPlan":
         """The same with these shifts in the weeks that are not over."""

@@ -5,7 +5,7 @@ import re
 import unicodedata
 from typing import Collection, NamedTuple, NoReturn, Sequence
 
-from ..week.faults import FileFault
+from ..week.faults import FileFault, Gathering
 from ..week.records import DAYS
 from ..week.slots import MAX_NUMBER, SIGNS, did_you_mean
 from ..week.words import quoted, readable
@@ -153,7 +153,8 @@ class SheetCell(NamedTuple):
         return self.text.replace(" ", "_").casefold()
 
     def new_name(self, kind: str, taken: Collection[str]) -> str:
-        """The cell as a new name of a file, with _ for a blank."""
+        """The cell as a new name of a file, with _ for a blank. Those that are taken are in small
+        letters."""
         name = self.text.replace(" ", "_")
         if not name:
             self.fault(f"the cell is empty: write the name of the {kind}, or delete the row")
@@ -161,7 +162,7 @@ class SheetCell(NamedTuple):
             self.fault(
                 f"'{self.text}' has one of the signs {' '.join(SIGNS)}: write the name without it"
             )
-        if name.casefold() in (other.casefold() for other in taken):
+        if name.casefold() in taken:
             self.fault(f"the {kind} '{self.text}' is there already: use another name")
         return name
 
@@ -171,15 +172,24 @@ class SheetCell(NamedTuple):
         """The name that the cell has, in whatever letters. A fault names the other words that may
         be in its place too, and what else may help."""
         wanted = self.key
-        meant = next((name for name in names if name.casefold() == wanted), None)
+        written = self.text.replace(" ", "_")
+        # A look through all names takes long if a ward has 1000 nurses.
+        alike = [written] if written in names else names
+        meant = next((name for name in alike if name.casefold() == wanted), None)
         if meant is None:
             otherwise = f"write one of {quoted([*map(readable, names), *others])}{end}"
-            advice = did_you_mean(
-                self.text.replace(" ", "_"), [*names, *others], otherwise, readable
-            )
+            advice = did_you_mean(written, [*names, *others], otherwise, readable)
             self.fault(
                 f"'{self.text}' is no {kind}: {advice}"
                 if self.text
                 else f"the cell is empty: write a {kind}, or delete the row"
             )
         return meant
+
+
+def new_name(cell: SheetCell, kind: str, taken: set[str], faults: Gathering) -> str:
+    """A new name, which is taken then. One that has a fault is known from now on too, since other
+    sheets may have it; an empty one is none."""
+    name = faults.tried(lambda: cell.new_name(kind, taken), cell.text.replace(" ", "_"))
+    taken.add(name.casefold())
+    return name

@@ -6,12 +6,13 @@ A ward's file has one contract for a whole period, so a nurse for whom another o
 contract of her own.
 """
 
+from collections import Counter
 from dataclasses import replace
 from typing import Collection, Iterator, Sequence
 
 from ..judging.leave import PartContract
 from ..week.facts import SHIFTS, WEEKENDS, Charged, Choice, Claim
-from ..week.records import WEEK_DAYS, Contract, History, Limits
+from ..week.records import WEEK_DAYS, Contract, History, Limits, together
 from ..week.slots import MAX_CONTRACTS, MAX_NUMBER
 from .plan_days import Days
 from .plan_sheets import NOT_EMPLOYED, WeekSheet
@@ -58,8 +59,17 @@ def with_part_contracts(ward: WardTables, weeks: Sequence[WeekSheet]) -> WardTab
     contracts = dict(ward.scenario.contracts)
     nurses = dict(ward.scenario.nurses)
     kept = dict(ward.kept)
+    not_employed = Counter(
+        who for week in weeks for (who, _), word in week.reasons.items() if word in NOT_EMPLOYED
+    )
+    away = together(
+        (absence.nurse, WEEK_DAYS * number + absence.day)
+        for number, week in enumerate(weeks)
+        for absence in week.absences
+        if absence.shift is None
+    )
     for name, nurse in ward.scenario.nurses.items():
-        contract = _own_contract(ward, name, weeks)
+        contract = _own_contract(ward, name, weeks, not_employed[name], away.get(name, ()))
         while contracts.get(contract.name, contract) != contract:
             contract = replace(contract, name=f"{contract.name}_")
         if contract.name in contracts or len(contracts) < MAX_CONTRACTS:
@@ -71,16 +81,13 @@ def with_part_contracts(ward: WardTables, weeks: Sequence[WeekSheet]) -> WardTab
     )
 
 
-def _own_contract(ward: WardTables, nurse: str, weeks: Sequence[WeekSheet]) -> Contract:
-    """The contract that counts for a nurse. One that differs has a name that says so."""
+def _own_contract(
+    ward: WardTables, nurse: str, weeks: Sequence[WeekSheet], gone: int, away: Collection[int]
+) -> Contract:
+    """The contract that counts for a nurse, who is not employed on so many days, and away on these.
+    One that differs has a name that says so."""
     contract = ward.scenario.contract_of(nurse)
     total = WEEK_DAYS * ward.scenario.weeks
-    gone = sum(
-        word in NOT_EMPLOYED
-        for week in weeks
-        for (who, _), word in week.reasons.items()
-        if who == nurse
-    )
     part = PartContract(contract.name)
     if gone:
         minimum, maximum = contract.assignments
@@ -89,9 +96,10 @@ def _own_contract(ward: WardTables, nurse: str, weeks: Sequence[WeekSheet]) -> C
         )
         contract = replace(contract, assignments=Limits(minimum * (total - gone) // total, most))
         part = part._replace(days=total - gone, total=total)
-    if _longest_absence(ward, nurse, weeks) > contract.days_off.maximum or _comes_or_leaves(
-        nurse, weeks
-    ):
+    before = ward.history.nurses[nurse].days_off
+    if _longest(
+        away, WEEK_DAYS * len(weeks), before
+    ) > contract.days_off.maximum or _comes_or_leaves(nurse, weeks):
         contract = replace(contract, days_off=Limits(contract.days_off.minimum, MAX_NUMBER))
         part = part._replace(any_days_off=True)
     return replace(contract, name=part.name)
@@ -106,18 +114,12 @@ def _comes_or_leaves(nurse: str, weeks: Sequence[WeekSheet]) -> bool:
     )
 
 
-def _longest_absence(ward: WardTables, nurse: str, weeks: Sequence[WeekSheet]) -> int:
-    """The most days in a row on which a nurse is away, with the days off before the plan."""
-    away = ((number, absence) for number, week in enumerate(weeks) for absence in week.absences)
-    days = {
-        WEEK_DAYS * number + absence.day
-        for number, absence in away
-        if (absence.nurse, absence.shift) == (nurse, None)
-    }
+def _longest(away: Collection[int], total: int, before: int) -> int:
+    """The most of these days in a row, of so many days, with the days off before them."""
     longest = 0
-    run = ward.history.nurses[nurse].days_off
-    for day in range(WEEK_DAYS * len(weeks)):
-        run = run + 1 if day in days else 0
+    run = before
+    for day in range(total):
+        run = run + 1 if day in away else 0
         longest = max(longest, run)
     return longest
 

@@ -44,5 +44,5 @@ class SkillNames:
                 f"'{part.text}' is no skill of the sheet needs, and has several in it: write commas"
                 " between skills"
             )
-        skill = part.new_name("skill", before)
+        skill = part.new_name("skill", [one.casefold() for one in before])
         return next((name for name in self.cells if name.casefold() == skill.casefold()), skill)

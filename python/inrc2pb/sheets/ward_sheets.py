@@ -10,7 +10,7 @@ from ..week.records import DAYS, Contract, History, Limits, Nurse, NurseHistory,
 from ..week.slots import MAX_CONTRACTS, MAX_NUMBER, MAX_NURSES, MAX_SHIFTS, MAX_SKILLS
 from ..week.words import readable
 from .older_names import Renamed, older_names
-from .sheet_cells import KEPT, SheetCell, day_meant
+from .sheet_cells import KEPT, SheetCell, day_meant, new_name
 from .sheet_files import Book
 from .sheet_rows import SheetRow, Table
 from .skill_names import SkillNames
@@ -99,12 +99,13 @@ def read_ward(book: Book, name: str, weeks: int, faults: Gathering) -> WardTable
         [cell.text for row in _rows(needs) for cell in [row.of("skill")] if cell.text]
     )
     nurses: dict[str, Nurse] = {}
+    taken: set[str] = set()
     past: dict[str, NurseHistory] = {}
     never: dict[str, tuple[list[str], list[int]]] = {}
     of_nurses = faults
     for row in _rows(nurse_rows):
         before = faults.number
-        nurse = _new_name(row.of("nurse"), "nurse", nurses, faults)
+        nurse = new_name(row.of("nurse"), "nurse", taken, faults)
         of_nurses = Gathering() if faults.number > before else of_nurses
         contract = of_contracts.tried(
             lambda: row.of("contract").known("contract", contracts), next(iter(contracts))
@@ -169,12 +170,6 @@ def _rows(table: Table | None) -> Sequence[SheetRow]:
     return table.rows if table else ()
 
 
-def _new_name(cell: SheetCell, kind: str, taken: Collection[str], faults: Gathering) -> str:
-    """A new name. One that has a fault is known from now on too, since other sheets may have it; an
-    empty one is none."""
-    return faults.tried(lambda: cell.new_name(kind, taken), cell.text.replace(" ", "_"))
-
-
 def table_of(book: Book, name: str) -> Table:
     """One of the sheets shifts, contracts, nurses and needs."""
     heads, optional = HEADS[name]
@@ -207,10 +202,11 @@ def days_off(cell: SheetCell) -> list[int]:
 def _shift_types(table: Table, faults: Gathering) -> tuple[dict[str, ShiftType], Gathering]:
     """The shift types, and where faults of names that are none of them go."""
     names: dict[str, SheetRow] = {}
+    taken: set[str] = set()
     before = faults.number
     for row in table.rows:
         cell = row.of("shift")
-        name = _new_name(cell, "shift type", names, faults)
+        name = new_name(cell, "shift type", taken, faults)
         with faults.step():
             if name.casefold() in OWN_WORDS:
                 cell.fault(
@@ -258,6 +254,7 @@ def _contracts(
     """The contracts, the kinds of maxima that each of them never exceeds, and where faults of names
     that are none of them go."""
     contracts: dict[str, Contract] = {}
+    taken: set[str] = set()
     kept: dict[str, set[str]] = {}
     unknown = faults
     for head, cell in table.kept.items():
@@ -266,7 +263,7 @@ def _contracts(
                 cell.fault(f"the sign {KEPT} is for {', '.join(_KEPT)}: delete it here")
     for row in table.rows:
         before = faults.number
-        name = _new_name(row.of("contract"), "contract", contracts, faults)
+        name = new_name(row.of("contract"), "contract", taken, faults)
         unknown = Gathering() if faults.number > before else unknown
         contract = _contract(row, name, faults)
         texts = {head: row.of(head).text for head in _KEPT}

@@ -1,7 +1,7 @@
 """A ward and its history in sentences, to be read by whoever knows the ward. Nurses with the same
 numbers share a sentence."""
 
-from typing import Iterable, Iterator
+from typing import Collection, Iterable, Iterator
 
 from ..judging.demand import Paid, asked_shifts, supplied_shifts
 from ..judging.leave import Counted, PartContract, part_contract, whole_contract
@@ -130,17 +130,19 @@ def _in_a_row(limits: Limits) -> str:
 def limit_sentences(scenario: Scenario, data: WeekData) -> Iterator[str]:
     """The maxima that are never exceeded, by contract or, if they are not those of all nurses of a
     contract, by nurse."""
+    kinds = together((limit.nurse, limit.kind) for limit in data.limits)
     for name, owners in _owners(scenario).items():
-        said = together((_limits_text(scenario, data, nurse), nurse) for nurse in owners)
+        said = together(
+            (_limits_text(scenario, kinds.get(nurse, ()), nurse), nurse) for nurse in owners
+        )
         for text, nurses in said.items():
             if text:
                 yield f"{name if nurses == owners else joined(nurses)}: never more than {text}."
 
 
-def _limits_text(scenario: Scenario, data: WeekData, nurse: str) -> str:
-    """The maxima that a nurse never exceeds; nothing if she has none."""
+def _limits_text(scenario: Scenario, kinds: Collection[str], nurse: str) -> str:
+    """The maxima of these kinds, which a nurse never exceeds; nothing if there are none."""
     contract = scenario.contract_of(nurse)
-    kinds = {limit.kind for limit in data.limits if limit.nurse == nurse}
     most = {
         SHIFTS: contract.assignments.maximum,
         WORK_DAYS: contract.working_days.maximum,

@@ -119,18 +119,15 @@ def _wishes_sentences(
 ) -> Iterator[str]:
     """Wishes, and how many equal requests of a file they are."""
     wishes = wishes_of_weeks((index, week.data) for index, week in enumerate(weeks))
+    order = {nurse: number for number, nurse in enumerate(scenario.nurses)}
+    by_shift = together((wish.shift, (wish.nurse, wish.day)) for wish in wishes)
 
     def days_and_requests(days: Collection[int]) -> str:
         times = f" ({len(days)} requests)" if len(days) > len(set(days)) else ""
         return f"{days_text(set(days))}{times}"
 
     for shift in (None, *scenario.shift_types):
-        pairs = [
-            (nurse, wish.day)
-            for nurse in scenario.nurses
-            for wish in wishes
-            if (wish.nurse, wish.shift) == (nurse, shift)
-        ]
+        pairs = sorted(by_shift.get(shift, ()), key=lambda pair: order[pair[0]])
         yield from _sentence(
             f"Would rather {'be off' if shift is None else f'not work {shift}'}",
             pairs,

@@ -217,7 +217,7 @@ class DaysAwayOfAWard(ExceededTest):
             cells = [cell for cell in ill.cells if NurseDay(cell.nurse, cell.day) not in ill.away]
             if plan is published:
                 # Neither owes she a shift, nor has she one too many.
-                self.assertEqual(ill.with_cells(cells).shifts_of("Grace"), 10)
+                self.assertEqual(ill.with_cells(cells).shifts_of["Grace"], 10)
                 self.assertEqual(list(exceeded_lines(ill.with_cells(cells))), [])
 
     def test_what_an_illness_counts_is_kept(self):
@@ -240,7 +240,7 @@ class DaysAwayOfAWard(ExceededTest):
             {("Grace", day): int(day not in (5, 6)) for day in range(2, 9)},
         )
         again = continued(read_sheet(self.ward, None, state.absences), state)
-        self.assertEqual((again.ward.credit["Grace"], again.shifts_of("Grace")), (5, 10))
+        self.assertEqual((again.ward.credit["Grace"], again.shifts_of["Grace"]), (5, 10))
         record = state.record("ill", MOMENT)
         (self.last() / "plan.json").write_text(record_text(record))
         self.assertEqual(read_record(self.last()), record)
