@@ -109,14 +109,16 @@ print(program.penalty_of(program.WeekFiles(*sys.argv[1:4]), sys.argv[4]))' "$war
     runs inrc2pb-solve --inrc2 "${week[@]}" --timeout 5 --sol simulated.txt --cusOut custom.txt
 }
 
-# follows_page PAGE: whoever follows the page in an empty folder, with the installed examples, comes to its end.
+# follows_page PAGE: whoever follows the page in an empty folder, with the installed examples, comes to its end. A ward's search has five
+# seconds: without a proof it would use up all of its usual time.
 follows_page() {
     local pages=$installed/share/doc/inrc2pb
     begins_case "$1 in an empty folder"
     rm -rf "$room/planner"
     mkdir "$room/planner"
     cp -r "$pages/examples" "$room/planner"
-    awk '/^```sh$/ { inside = 1; next } /^```/ { inside = 0 } inside' "$pages/$1" > "$room/blocks"
+    awk '/^```sh$/ { inside = 1; next } /^```/ { inside = 0 } inside' "$pages/$1" |
+        sed 's/^inrc2pb-plan .* plan$/& --time 5/' > "$room/blocks"
     [ -s "$room/blocks" ] || complain 'no block'
     (cd "$room/planner" && env -i HOME="$room" PATH="$installed/bin:/usr/local/bin:/usr/bin:/bin:/usr/games" \
         timeout 1800 bash -eu "$room/blocks") > "$out" 2> "$err" || complain "it ends with $? (124 after half an hour): $(tail -n 3 "$err")"
