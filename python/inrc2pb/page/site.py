@@ -175,13 +175,17 @@ class Site:
             return None
         is_old = bool(writes(form)) and form.get(STAMP) != self.jobs.folder.stamp
         if _LATE in query:
-            # A verb that ran when a form was refused may have written what the form asks for, or
-            # another plan since.
-            fault = Changed() if is_old or query[_LATE] != "busy" else Busy()
-            missing = not_written(form) if _asked(form) != _asked(self.jobs.said().fields) else []
-            return Sent(form, [str(fault), *missing], True)
-        if is_old or (self.jobs.runs and writes(form)):
-            return None
+            return self._late(form, Changed() if is_old or query[_LATE] != "busy" else Busy())
+        return None if is_old or (self.jobs.runs and writes(form)) else self._answered(form)
+
+    def _late(self, form: dict[str, str], fault: Busy | Changed) -> Sent:
+        """A form that came too late. A verb that ran then may have written what the form asks for,
+        or another plan since."""
+        missing = not_written(form) if _asked(form) != _asked(self.jobs.said().fields) else []
+        return Sent(form, [str(fault), *missing], True)
+
+    def _answered(self, form: dict[str, str]) -> Sent | None:
+        """The form with what its verb says, if it is refused or asks whether to write."""
         try:
             answer = self.jobs.asked(event_of(form, self.jobs.seconds, self._period))
         except Misuse as fault:
