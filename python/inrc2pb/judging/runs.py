@@ -207,17 +207,10 @@ class Runs:
     def _with_days_away(self, day: int, before: RunState, step: Step) -> Step:
         """The step with the run of work and training at the end of the day, and with what that, a
         night before and a call cost."""
-        (cost, now) = step
+        cost, now = step
         away = self._beside
         limits = Limits(1, self.contract.working_days.maximum)
-        run = 0
-        is_due = False
-        if now.choice:
-            run = before.trained + bool(before.trained)
-            is_due = before.is_due and day < away.fixed
-        elif day in away.training:
-            run = (before.trained or before.work_run) + 1
-            is_due = before.is_due if before.trained else not before.work_run or day <= away.fixed
+        run, is_due = self._with_training(day, before, now.choice)
         from_night = (
             day in away.free
             and day > away.fixed
@@ -231,6 +224,18 @@ class Runs:
         cost += away.call if is_called and not before.is_called else 0
         trained = shortened(run, limits, self.days - day - 1) if run else 0
         return cost, now._replace(trained=trained, is_due=is_due, is_called=is_called)
+
+    def _with_training(self, day: int, before: RunState, choice: int) -> tuple[int, bool]:
+        """The run of work and training at the end of the day, 0 if it has no training, and whether
+        no day of it could have been off."""
+        fixed = self._beside.fixed
+        if choice:
+            return before.trained + bool(before.trained), before.is_due and day < fixed
+        if day not in self._beside.training:
+            return 0, False
+        if before.trained:
+            return before.trained + 1, before.is_due
+        return before.work_run + 1, not before.work_run or day <= fixed
 
 
 def runs_then(types: Sequence[ShiftType], then: NextDays, shift_run: int = SHIFT_RUN) -> Runs:
