@@ -35,7 +35,7 @@ from inrc2pb.plans.ward_folder import WardFolder
 from inrc2pb.plans.words import Wording
 from inrc2pb.rows import row_run
 from inrc2pb.sheets.ward_template import EXAMPLE
-from inrc2pb.week.dates import OtherPlan, PlanDays
+from inrc2pb.week.dates import PlanDays
 from inrc2pb.week.facts import Charged, Claim
 from inrc2pb.week.faults import Misuse
 from inrc2pb.week.records import Cell, Request, WeekData
@@ -51,54 +51,6 @@ TWO_WEEKS = [
 # The files of the plan with which tests begin.
 FIRST_PLAN = {}
 DATED = PlanDays(MONDAY, 2)
-BARE = PlanDays(None, 2)
-
-
-class Days(unittest.TestCase):
-    def test_days_and_their_names(self):
-        for days, near, text, number, name in (
-            (DATED, 0, "Fri", 4, "Fri 4 Dec"),
-            (DATED, 5, "fri", 11, "Fri 11 Dec"),
-            (DATED, 4, "Friday", 4, "Fri 4 Dec"),
-            (DATED, 0, "Fri 2", 11, "Fri 11 Dec"),
-            (DATED, 9, "2026-12-01", 1, "Tue 1 Dec"),
-            (DATED, 9, "1.12.", 1, "Tue 1 Dec"),
-            (DATED, 0, "13.12.2026", 13, "Sun 13 Dec"),
-            (DATED, 9, "1 Dec", 1, "Tue 1 Dec"),
-            (DATED, 9, "Tue 1 dec", 1, "Tue 1 Dec"),
-            (BARE, 0, "Sun 2", 13, "Sun of week 2"),
-        ):
-            with self.subTest(text):
-                self.assertEqual(days.number(text, near), number)
-                self.assertEqual(days.text(number), name)
-        self.assertEqual((DATED.head(4), BARE.head(11)), ("2026-12-04", "Fri 2"))
-
-    def test_weeks_and_their_numbers_in_the_calendar(self):
-        self.assertEqual(
-            (DATED.weeks_text([1]), BARE.weeks_text([1])), ("week 2 (calendar week 50)", "week 2")
-        )
-        self.assertEqual(
-            (DATED.weeks_text([0, 1]), BARE.weeks_text([0, 1])),
-            ("weeks 1 and 2 (calendar weeks 49 and 50)", "weeks 1 and 2"),
-        )
-
-    def test_a_date_without_its_year_after_new_year(self):
-        days = PlanDays(datetime.date(2026, 12, 28), 1)
-        self.assertEqual((days.number("31.12.", 0), days.number("2.1.", 0)), (3, 5))
-
-    def test_days_that_the_plan_does_not_have(self):
-        for text in ("2026-11-29", "2026-12-14", "Mon 3", "29.11.2026"):
-            with self.subTest(text), self.assertRaises(OtherPlan):
-                DATED.number(text, 0)
-        for days, text in (
-            (DATED, "2026-02-30"),
-            (DATED, "soon"),
-            (DATED, "Wed 1 Dec"),
-            (BARE, "2026-12-01"),
-            (BARE, "1 Dec"),
-        ):
-            with self.subTest(text), self.assertRaises(Misuse):
-                days.number(text, 0)
 
 
 class Words(unittest.TestCase):
