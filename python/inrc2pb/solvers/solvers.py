@@ -129,13 +129,13 @@ def _has_status(printed: bytes) -> bool:
     return bool(_STATUS.match(printed[:2]) or _LATER_STATUS.search(printed))
 
 
-def answer_of(solution: Path, ended: Optional[str] = None) -> Outcome:
-    """The answer in a result file; `ended` counts if the file does not say how the solver ended."""
+def answer_of(solution: Path) -> Outcome:
+    """The answer in a result file."""
     text = io.StringIO()
     try:
         check_size(solution)
         with open(solution, encoding="utf-8", errors="replace") as file:
-            read_answer(file, ended).write(text)
+            read_answer(file).write(text)
     except SolutionFault as fault:
         return Outcome("", f"its result file has a fault: {fault}")
     return Outcome(text.getvalue())
