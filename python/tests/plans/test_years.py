@@ -1,4 +1,4 @@
-"""Tests of a folder that has the plans of five years, and of one with 1000 nurses."""
+"""Tests of a folder that has the plans of ten years, and of one with 1000 nurses."""
 
 import datetime
 import shutil
@@ -24,12 +24,12 @@ from inrc2pb.sheets.written_days import DayWord
 from inrc2pb.week.dates import PlanDays
 from inrc2pb.week.records import WEEK_DAYS, NurseDay
 
-YEARS = 5
+YEARS = 10
 WEEK = datetime.timedelta(days=WEEK_DAYS)
 NOW = datetime.datetime(2026, 12, 1, 12, 0)
 
 
-class FiveYears(CalendarTest):
+class TenYears(CalendarTest):
     def test_a_verb_writes_nothing_of_old_periods_anew(self):
         # Each period has two weeks, which have been worked as they were planned.
         plan = self.reader().current()
