@@ -123,8 +123,8 @@ def _correct(old: WardPlan, wording: Wording, worked: _Worked, place: NurseDay) 
     cell = cell_of(wording, old, place)
     if cell:
         worked.cells[place] = cell
-        if old.away.get(place, ALWAYS_OFF) not in DAYS_OFF:
-            worked.away[place] = BACK
+    if old.away.get(place, ALWAYS_OFF) not in DAYS_OFF:
+        worked.away[place] = BACK
 
 
 def next_period_lines(before: WardPlan | None, now: WardPlan | None) -> list[str]:

@@ -226,6 +226,19 @@ class BegunDays(PeriodTest):
         self.does("undo")
         self.assertEqual(set(read_state(self.last()).cells), before)
 
+    def test_a_day_away_on_which_she_was_off_is_no_day_away(self):
+        self.does("over", "Grace", "Mon", "ill")
+        printed = self.does("over", "Grace", "Mon", "off")
+        self.assertIn("Grace: back, Mon 30 Nov\n", printed)
+        self.does("over", "--do")
+        table = (self.ward / "tables" / "worked-2026.csv").read_text()
+        self.assertNotIn("Grace,2026-11-30,ill", table)
+        for _ in range(2):
+            self.does("undo")
+        self.does("over", "--do")
+        table = (self.ward / "tables" / "worked-2026.csv").read_text()
+        self.assertIn("Grace,2026-11-30,ill,,Day\n", table)
+
     def test_later_verbs_leave_these_days(self):
         self.does("set", "Finn", "Tue", "Late", "--do")
         self.does("over", "Finn", "Tue", "off")
