@@ -83,7 +83,7 @@ BELIEFS = [
     ("`encode` writes such a model, or names the first fault.", 2),
     ("Each byte of the model is the specified one.", 3),
     ("`decode` and `extend` keep their promises.", 4),
-    ("All of `inrc2pb` keeps its promises, from its words to its status.", 5),
+    ("`inrc2pb` keeps the contract of `program`, from its words to its status.", 5),
 ]
 # Below the heading of a list: the statement for which the page says what else it rests on.
 RESTING = {
@@ -240,7 +240,13 @@ def beliefs() -> str:
     every = [wanted for _, wanted, _ in lists()]
     needs = [(text, first_lists(count), set().union(*every[:count])) for text, count in BELIEFS]
     needs += [(text, where, reach.reached([start])) for text, where, start in BOUND_BELIEFS]
-    needs.append(("All of this, and the laws.", first_lists(len(every)), set().union(*every)))
+    needs.append(
+        (
+            "All of this, and the two laws about the files at your paths.",
+            first_lists(len(every)),
+            set().union(*every),
+        )
+    )
     lines = (f"| {text} | {where} | {files_and_lines(files)} |\n" for text, where, files in needs)
     return f"| you want to believe | read | files | lines |\n|---|---|---:|---:|\n{''.join(lines)}"
 
