@@ -123,6 +123,7 @@ def _with_next(
         cause = cause or replace(found.cause, old=after, new=after, days=())
     if cause is None:
         return found
+    say(store, cause.begin() if cause.days else [])
     seconds = min(found.asked.seconds, STOPPED_NEXT) if signals.caught else found.asked.seconds
     asked = found.asked._replace(first=0, seconds=seconds)
     then = _planned(store, found.verb, cause.new, asked, cause, signals)

@@ -262,8 +262,10 @@ class AcrossTheBorder(CalendarTest):
         self.assertEqual((self.works(), self.away(), self.folders()), (before, {}, folders))
 
     def test_who_is_back_in_december_is_back_in_january_too(self):
-        self.does("ill", "Finn", "12.12.", "15.12.", "--open")
-        self.does("back", "Finn", "13.12.")
+        said = self.runs("ill", "Finn", "12.12.", "15.12.", "--open")[2]
+        self.assertIn("Finn: ill, Mon 14 Dec to Tue 15 Dec\n", said)
+        said = self.runs("back", "Finn", "13.12.")[2]
+        self.assertIn("Finn: back, Mon 14 Dec to Tue 15 Dec (ill)\n", said)
         words = self.reader().current().ward.reasons, self.january().ward.reasons
         self.assertEqual(words, ({("Finn", 12): "ill"}, {}))
         self.does("undo")
