@@ -12,7 +12,7 @@ line version "inrc2pb $(sed -n 's/^## //p' CHANGELOG.md | head -n 1)"
 declare -A line_of_page=(
     [files]='^## The files, slot by slot$' ['files of the week']='^## The files, slot by slot$' [roster]='^## The files, slot by slot$'
     [model]='^## The OPB text$' [answer]='^## Answers of solvers$'
-    ['solution file']='^| solution file | ' [report]='^| report | ' [faults]='^| fault | text | status |'
+    ['solution file']='^- \*\*A solution file\*\* ' [report]='^- \*\*The report of .decode.\*\* ' [faults]='^| fault | text | status |'
     ['exit statuses']='^| fault | text | status |'
 )
 declare -A line_of_manual=(
