@@ -48,7 +48,10 @@ HEAD = "# name nurses weeks variables constraints sum-of-files sum-of-model best
 # The families of instances by the beginning of their names: how the rest of a name is made, and
 # its special property.
 FAMILIES = {
-    "small": ("N-..", "three shift types, two skills; the first, second or last week of a scenario"),
+    "small": (
+        "N-..",
+        "three shift types, two skills; the first, second or last week of a scenario",
+    ),
     "first": ("N", "four shift types, four skills; the first week of a scenario"),
     "last": ("N", "the same; the last week, in which the totals of all weeks count"),
     "tight": ("N", "nearly twice the usual demand: most nurses work more than they should"),
