@@ -151,7 +151,7 @@ def python_steps(changed: Sequence[str], tests: Choice) -> Iterator[Step]:
     typed = matching(changed, TYPED)
     mypy = ["mypy", "--config-file", settings, "--cache-dir", "out/types"]
     for files in filter(None, (["python/inrc2pb"], typed)):
-        yield Step(f"types of {files[0]}", [*mypy, *files], {"MYPYPATH": "python"})
+        yield Step(f"types of {files[0]}", [*mypy, *files], {"MYPYPATH": "python:bench:certified"})
     yield Step("imports between packages", ["python3", "python/tests/packages.py"])
     there = matching(changed, r".*\.py")
     if there:
