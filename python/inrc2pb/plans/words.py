@@ -82,8 +82,8 @@ class Wording:
         day = self.day(near, days)
         if day < self._first:
             cure = (
-                f"the plan goes on from {self._days.text(self._first)}; undo takes the end of that"
-                " week back"
+                f"the plan goes on from {self._days.text(self._first)}, and the verb over corrects"
+                " older days"
             )
             raise Misuse(f"{self._days.text(day)} is in a week that is over: {cure}")
         if day < self._begin:

@@ -133,8 +133,8 @@ class Words(unittest.TestCase):
         self.assertEqual(
             str(caught.exception),
             (
-                "Tue 1 Dec is in a week that is over: the plan goes on from Mon 7 Dec; undo takes"
-                " the end of that week back"
+                "Tue 1 Dec is in a week that is over: the plan goes on from Mon 7 Dec, and the verb"
+                " over corrects older days"
             ),
         )
 
@@ -548,8 +548,8 @@ class Verbs(FolderTest):
         )
         status, _, said = run("plan", self.ward, "ill", "Chen", "2026-12-01")
         line = (
-            "Tue 1 Dec is in a week that is over: the plan goes on from Mon 7 Dec; undo takes the"
-            " end of that week back"
+            "Tue 1 Dec is in a week that is over: the plan goes on from Mon 7 Dec, and the verb over"
+            " corrects older days"
         )
         self.assertEqual((status, said), (1, f"inrc2pb-plan: {line}\n"))
         self.assertIn(

@@ -256,7 +256,7 @@ class Written(SetTest):
     def test_a_day_of_a_week_that_is_over(self):
         self.does("over")
         status, _, said = run("plan", self.ward, "set", "Grace", "2026-12-01", "off")
-        cure = "the plan goes on from Mon 7 Dec; undo takes the end of that week back"
+        cure = "the plan goes on from Mon 7 Dec, and the verb over corrects older days"
         self.assertEqual(
             (status, said), (1, f"inrc2pb-plan: Tue 1 Dec is in a week that is over: {cure}\n")
         )
